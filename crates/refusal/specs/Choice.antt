@@ -1,0 +1,22 @@
+-- What every definition above is written with: a choice by a test, one of some tests, one of some numbers.
+-- Assumes nothing.
+use mathlib.Core.Bool.{Bool, true, false, _||_}
+use mathlib.Core.List.{List, [], _∷_}
+use Prim.Native.Nat.{ℕ}
+use lib.Dec.{eqb}
+
+infixr 5 if_then_else_
+
+abbrev pub if_then_else_ {ℓ} : {A : Type ℓ} → Bool → A → A → A
+if_then_else_ true a b = a
+if_then_else_ false a b = b
+
+-- one of some tests holds
+abbrev pub anyOf : List Bool → Bool
+anyOf [] = false
+anyOf (t ∷ ts) = t || anyOf ts
+
+-- n is one of some numbers
+abbrev pub among : ℕ → List ℕ → Bool
+among n [] = false
+among n (k ∷ ks) = eqb n k || among n ks

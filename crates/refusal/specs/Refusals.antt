@@ -1,0 +1,20 @@
+-- "Refusal numbers": a table of lines `test gives number`, of which the first that holds is given.
+-- Assumes nothing.
+use mathlib.Core.Bool.{Bool}
+use mathlib.Core.List.{List, [], _∷_}
+use Prim.Native.Nat.{ℕ}
+use Rattle.refusal.specs.Choice.{if_then_else_}
+
+infix 80 _gives_
+
+pub record Line : Type 0 where
+  pub holds : Bool
+  pub number : ℕ
+
+abbrev pub _gives_ : Bool → ℕ → Line
+t gives n = record { holds = t; number = n }
+
+-- the number of the first line that holds, or 0
+abbrev pub firstGiven : List Line → ℕ
+firstGiven [] = 0
+firstGiven (l ∷ ls) = if l .holds then l .number else firstGiven ls

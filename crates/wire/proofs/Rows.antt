@@ -1,0 +1,82 @@
+-- What the table says of an opcode's headers. Assumes nothing.
+use mathlib.Core.Path.{_≡_, refl, sym, _∙_, ap}
+use mathlib.Core.Bool.{Bool, true, false, true≢false, false≢true}
+use mathlib.Core.List.{List, [], _∷_, _++_}
+use Prim.Native.Nat.{ℕ, _+_, _*_, _/_, _≤_, _<_}
+use native.Mathlib.Omega.{arith}
+use lib.Dec.{leb}
+use lib.ListN.{getD}
+use borrow.Author.Tests.{leb-true}
+use Rattle.refusal.specs.Choice.{if_then_else_}
+use Rattle.refusal.proofs.Cases.{by-test}
+use Rattle.wire.specs.Bytes.{octet}
+use Rattle.wire.specs.Layout.{Layout, bth, reth, immediateData, aeth, size}
+use Rattle.wire.specs.Opcodes.{known, hasReth, hasImmediate, hasAeth, joined, layout, headerLength, rowOf, nothing, carriesOf}
+use Rattle.wire.specs.declared.opcode.Carries.{Carries}
+use Rattle.wire.proofs.Fields.{size-append}
+use Rattle.wire.proofs.Table.{from, rule}
+
+pub carries-known : (op : ℕ) → known op ≡ true → carriesOf op ≡ rowOf op
+unfolding carriesOf
+carries-known op e = rw e
+
+pub carries-unknown : (op : ℕ) → known op ≡ false → carriesOf op ≡ nothing
+unfolding carriesOf
+carries-unknown op e = rw e
+
+-- ---- whole bytes
+
+-- a header in bytes, if it is carried
+abbrev pub count : Bool → ℕ → ℕ
+count t k = if t then k else 0
+
+pub size-carried : (t : Bool) (fs : Layout) (k : ℕ) → size fs ≡ octet * k → size (if t then fs else []) ≡ octet * count t k
+size-carried true fs k e = e
+size-carried false fs k e = refl
+
+pub size-two : (fs gs : Layout) (m k : ℕ) → size fs ≡ octet * m → size gs ≡ octet * k → size (fs ++ gs) ≡ octet * (m + k)
+size-two fs gs m k p q = omega (arith, size-append fs gs)
+
+module _ (r i a : Bool) where
+  pub size-reth : size (bth ++ (if r then reth else [])) ≡ octet * (12 + count r 16)
+  size-reth = size-two bth (if r then reth else []) 12 (count r 16) refl (size-carried r reth 16 refl)
+
+  pub size-immediate : size (bth ++ (if r then reth else []) ++ (if i then immediateData else [])) ≡ octet * (12 + count r 16 + count i 4)
+  size-immediate =
+      size-two (bth ++ (if r then reth else [])) (if i then immediateData else []) (12 + count r 16) (count i 4)
+      size-reth (size-carried i immediateData 4 refl)
+
+  pub size-joined : size (joined r i a) ≡ octet * (12 + count r 16 + count i 4 + count a 4)
+  size-joined =
+      size-two (bth ++ (if r then reth else []) ++ (if i then immediateData else [])) (if a then aeth else [])
+      (12 + count r 16 + count i 4) (count a 4) size-immediate (size-carried a aeth 4 refl)
+
+  pub joined-bytes : size (joined r i a) ≡ octet * (size (joined r i a) / octet)
+  joined-bytes = omega (arith, size-joined)
+
+  pub joined-least : 12 ≤ size (joined r i a) / octet
+  joined-least = omega (arith, size-joined)
+
+-- ---- lengths
+
+pub length-bytes : (op : ℕ) → size (layout op) ≡ octet * headerLength op
+unfolding headerLength layout
+length-bytes op = joined-bytes (hasReth op) (hasImmediate op) (hasAeth op)
+
+pub length-least : (op : ℕ) → 12 ≤ headerLength op
+unfolding headerLength layout
+length-least op = joined-least (hasReth op) (hasImmediate op) (hasAeth op)
+
+-- the opcodes that are known, in a list
+opcode-at : (op : ℕ) → op < 18 → getD (from 0 18) op 0 ≡ op
+opcode-at op h = rule (λ n. n) (λ n. n) 0 (from 0 18) refl op h
+
+-- every header fits its 32 bytes: no opcode has both RETH and AETH
+short : (op : ℕ) → op < 18 → leb (headerLength op) 32 ≡ true
+unfolding headerLength layout
+short op h =
+    ap (λ (n : ℕ). leb (headerLength n) 32) (sym (opcode-at op h))
+    ∙ rule (λ n. leb (headerLength n) 32) (λ n. true) 0 (from 0 18) refl op h
+
+pub length-most : (op : ℕ) → known op ≡ true → headerLength op ≤ 32
+length-most op e = leb-true (headerLength op) 32 (short op (omega (arith, leb-true op 17 e)))

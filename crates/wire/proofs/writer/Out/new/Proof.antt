@@ -1,0 +1,14 @@
+-- `Out::new` is filled with nothing. Assumes nothing.
+use mathlib.Core.Path.{refl}
+use Rattle.wire.specs.Out.{filled}
+use Rattle.wire.proofs.writer.Out.new.Statement.{statement}
+use Rattle.wire.proofs.writer.Out.new.Tie as tie
+use Rattle.wire.proofs.writer.Out.new.Reads as reads
+use Rattle.wire.proofs.writer.Out.new.Lts as lts
+
+returns : tie.Need-returns
+unfolding filled
+returns c = refl
+
+pub new-spec : {M : Type 1} → statement M
+new-spec = tie.close (tie.spec returns)

@@ -1,0 +1,6 @@
+pub mod Bytes
+pub mod Layout
+pub mod Opcodes
+pub mod Header
+pub mod Frame
+pub mod Out

@@ -1,0 +1,42 @@
+// The header layer: a header's fields to bytes and back. It knows layouts and opcodes, and nothing of pairs.
+mod opcode;
+mod writer;
+
+pub use opcode::Carries;
+pub use writer::write;
+
+// A header's fields by value; those that its opcode lacks are not written and read as 0.
+pub struct Header {
+    pub opcode: u8,
+    pub pad: u8,
+    pub pkey: u16,
+    pub far: u32,
+    pub psn: u32,
+    pub address: u64,
+    pub key: u32,
+    pub length: u32,
+    pub value: u32,
+    pub syndrome: u8,
+    pub msn: u32,
+}
+
+// How many of the bytes the header takes, or the refusal's number.
+pub enum Size {
+    Length(u32),
+    Refused(u8),
+}
+
+pub struct Written {
+    pub size: Size,
+    pub bytes: [u8; 32],
+}
+
+// What a frame holds, with the length of its headers and of its payload, or the refusal's number.
+pub enum Frame {
+    Read {
+        header: Header,
+        length: u32,
+        payload: usize,
+    },
+    Refused(u8),
+}
