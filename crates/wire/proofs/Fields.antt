@@ -55,7 +55,7 @@ pub same-name : (m n : Name) → same m n ≡ true → m ≡ n
 same-name m n e =
     sym (named m) ∙ ap (λ (k : ℕ). getD names k fields.opcode) (eqb-true (code m) (code n) e) ∙ named n
 
-same-self : (n : Name) → same n n ≡ true
+pub same-self : (n : Name) → same n n ≡ true
 same-self n = eq-eqb (code n) (code n) refl
 
 -- ---- laying

@@ -1,6 +1,10 @@
 pub mod Adding
+pub mod Answered
 pub mod Bytes
 pub mod Fields
+pub mod Parts
+pub mod Reading
 pub mod Rows
+pub mod Seeing
 pub mod Table
 pub mod Writing

@@ -12,6 +12,7 @@ use Rattle.refusal.proofs.Cases.{by-test}
 use Rattle.wire.specs.Bytes.{octet}
 use Rattle.wire.specs.Layout.{Layout, bth, reth, immediateData, aeth, size}
 use Rattle.wire.specs.Opcodes.{known, hasReth, hasImmediate, hasAeth, joined, layout, headerLength, rowOf, nothing, carriesOf}
+use Rattle.wire.specs.Seen.{count}
 use Rattle.wire.specs.declared.opcode.Carries.{Carries}
 use Rattle.wire.proofs.Fields.{size-append}
 use Rattle.wire.proofs.Table.{from, rule}
@@ -26,9 +27,9 @@ carries-unknown op e = rw e
 
 -- ---- whole bytes
 
--- a header in bytes, if it is carried
-abbrev pub count : Bool → ℕ → ℕ
-count t k = if t then k else 0
+pub count-most : (t : Bool) (k : ℕ) → count t k ≤ k
+count-most true k = omega arith
+count-most false k = omega arith
 
 pub size-carried : (t : Bool) (fs : Layout) (k : ℕ) → size fs ≡ octet * k → size (if t then fs else []) ≡ octet * count t k
 size-carried true fs k e = e
@@ -80,3 +81,14 @@ short op h =
 
 pub length-most : (op : ℕ) → known op ≡ true → headerLength op ≤ 32
 length-most op e = leb-true (headerLength op) 32 (short op (omega (arith, leb-true op 17 e)))
+
+-- an opcode that is not known is one whose row has no length
+pub unknown-by-length : (op : ℕ) → carriesOf op .length ≡ 0 → known op ≡ false
+unknown-by-length op e =
+    by-test (known op)
+    (λ k. absurd (omega (arith, length-least op, e, ap (λ (r : Carries). r .length) (carries-known op k))))
+    (λ k. k)
+
+pub known-by-length : (op : ℕ) → (carriesOf op .length ≡ 0 → ⊥) → known op ≡ true
+known-by-length op e =
+    by-test (known op) (λ k. k) (λ k. absurd (e (ap (λ (r : Carries). r .length) (carries-unknown op k))))

@@ -6,12 +6,12 @@ use Prim.Native.Nat.{ℕ, _+_, _-_, _*_, _≤_}
 use native.Mathlib.Omega.{arith}
 use lib.ListN.{length, replicate}
 use Rattle.refusal.specs.Choice.{if_then_else_}
-use Rattle.refusal.proofs.Cases.{by-test}
 use Rattle.wire.specs.Bytes.{octet, bytes}
 use Rattle.wire.specs.Layout.{Name, bth, reth, immediateData, aeth, size, laid}
-use Rattle.wire.specs.Opcodes.{known, hasReth, hasImmediate, hasAeth, joined, layout, headerLength, rowOf, carriesOf}
+use Rattle.wire.specs.Opcodes.{known, hasReth, hasImmediate, hasAeth, joined, layout, headerLength, rowOf}
 use Rattle.wire.specs.Header.{headerBytes, put, written, isOutOfRange, refused, writeOf}
 use Rattle.wire.specs.Out.{filled, Adds, spelled}
+use Rattle.wire.specs.Seen.{count}
 use Rattle.wire.specs.declared.Header.{Header}
 use Rattle.wire.specs.declared.Written.{Written}
 use Rattle.wire.specs.declared.Size.the-variants.{Length}
@@ -19,7 +19,7 @@ use Rattle.wire.specs.declared.opcode.Carries.{Carries}
 use Rattle.wire.specs.declared.writer.Out.{Out}
 use Rattle.wire.proofs.Adding.{adds-layout}
 use Rattle.wire.proofs.Bytes.{bytes-length}
-use Rattle.wire.proofs.Rows.{count, size-carried, size-reth, size-immediate, length-least, length-most, carries-known, carries-unknown}
+use Rattle.wire.proofs.Rows.{size-carried, size-reth, size-immediate, length-most}
 
 -- ---- the cases of `writeOf`
 
@@ -40,17 +40,6 @@ whole h =
 pub write-whole : (h : Header) → isOutOfRange h ≡ false → known (h .opcode) ≡ true → writeOf h ≡ whole h
 unfolding writeOf
 write-whole h e k = rw (e, k)
-
--- an opcode that is not known is one whose row has no length
-pub unknown-by-length : (op : ℕ) → carriesOf op .length ≡ 0 → known op ≡ false
-unknown-by-length op e =
-    by-test (known op)
-    (λ k. absurd (omega (arith, length-least op, e, ap (λ (r : Carries). r .length) (carries-known op k))))
-    (λ k. k)
-
-pub known-by-length : (op : ℕ) → (carriesOf op .length ≡ 0 → ⊥) → known op ≡ true
-known-by-length op e =
-    by-test (known op) (λ k. k) (λ k. absurd (e (ap (λ (r : Carries). r .length) (carries-unknown op k))))
 
 -- ---- the headers one after the other
 

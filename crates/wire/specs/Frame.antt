@@ -45,18 +45,16 @@ restOf s = length s - lengthOf s
 
 -- "11 frame shorter than its headers (below 12 bytes, or below what its opcode needs); 12 opcode not 0 to 17; 13 transport version not 0;
 -- 14 rest after headers not a multiple of 4, smaller than the pad count, or not empty for opcode 12 or 17"
+abbrev pub isBadRest : ℕ → ℕ → Bool → Bool
+isBadRest rest pad bare = anyOf (not (eqb (rest % 4) 0) ∷ ltb rest pad ∷ (bare && ltb 0 rest) ∷ [])
+
 abbrev pub frameRefusals : List ℕ → List Line
 frameRefusals s =
     ltb (length s) 12 gives 11
     ∷ not (known (opcodeOf s)) gives 12
     ∷ ltb (length s) (lengthOf s) gives 11
     ∷ not (eqb (valueIn s fields.version) 0) gives 13
-    ∷ anyOf
-        (not (eqb (restOf s % 4) 0)
-        ∷ ltb (restOf s) (valueIn s fields.pad)
-        ∷ (isBare (opcodeOf s) && ltb 0 (restOf s))
-        ∷ [])
-      gives 14
+    ∷ isBadRest (restOf s) (valueIn s fields.pad) (isBare (opcodeOf s)) gives 14
     ∷ []
 
 -- "also answers header and payload length (rest less pad)"

@@ -4,3 +4,4 @@ pub mod Opcodes
 pub mod Header
 pub mod Frame
 pub mod Out
+pub mod Seen

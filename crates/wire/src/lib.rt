@@ -1,8 +1,10 @@
 // The header layer: a header's fields to bytes and back. It knows layouts and opcodes, and nothing of pairs.
 mod opcode;
+mod reader;
 mod writer;
 
 pub use opcode::Carries;
+pub use reader::read;
 pub use writer::write;
 
 // A header's fields by value; those that its opcode lacks are not written and read as 0.

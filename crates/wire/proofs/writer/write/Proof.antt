@@ -2,8 +2,8 @@
 use mathlib.Core.Path.{_≡_, sym, _∙_, ap}
 use Rattle.wire.specs.Opcodes.{carriesOf}
 use Rattle.wire.specs.declared.opcode.Carries.{Carries}
-use Rattle.wire.proofs.Rows.{carries-known}
-use Rattle.wire.proofs.Writing.{write-range, write-opcode, write-whole, unknown-by-length, known-by-length, made}
+use Rattle.wire.proofs.Rows.{carries-known, unknown-by-length, known-by-length}
+use Rattle.wire.proofs.Writing.{write-range, write-opcode, write-whole, made}
 use borrow.Author.Needs.{needs}
 use Rattle.wire.proofs.writer.write.Statement.{statement}
 use Rattle.wire.proofs.writer.write.Tie as tie

@@ -1,0 +1,48 @@
+-- `two` is a number of two parts, the higher bytes first. Assumes nothing.
+use denote.Ref.{now}
+use Rattle.wire.proofs.Seeing.{join-seen}
+use borrow.Author.Needs.{needs}
+use Rattle.wire.proofs.reader.two.Statement.{statement}
+use Rattle.wire.proofs.reader.two.Tie as tie
+use Rattle.wire.proofs.reader.two.Reads as reads
+use Rattle.wire.proofs.reader.two.Lts as lts
+use Rattle.wire.proofs.reader.byte.Reads as byte-reads
+
+byte-requires : tie.Need-byte-requires
+byte-requires c κs = search needs
+
+cast-result : tie.Need-cast-result
+cast-result c = search needs
+
+mul-result : tie.Need-mul-result
+mul-result c = search needs
+
+add-byte : tie.Need-add-byte
+add-byte c = search needs
+
+byte-requires-2 : tie.Need-byte-requires-2
+byte-requires-2 c κs = search needs
+
+cast-result-2 : tie.Need-cast-result-2
+cast-result-2 c = search needs
+
+add-result : tie.Need-add-result
+add-result c = search needs
+
+returns : tie.Need-returns
+returns c =
+    let a = c .before .before .before .args in
+    join-seen (now (a .s)) (a .at) 1 1 (c .before .byte .result) (c .byte2 .result) (c .before .byte .ensures) (c .byte2 .ensures)
+
+pub two-spec : {M : Type 1} → statement M
+two-spec =
+    tie.close
+    (tie.spec
+    byte-requires
+    cast-result
+    mul-result
+    add-byte
+    byte-requires-2
+    cast-result-2
+    add-result
+    returns)
