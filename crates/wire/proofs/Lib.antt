@@ -1,7 +1,9 @@
 pub mod Adding
 pub mod Answered
+pub mod Back
 pub mod Bytes
 pub mod Fields
+pub mod Forth
 pub mod Parts
 pub mod Reading
 pub mod Rows

@@ -3,5 +3,6 @@ pub mod Layout
 pub mod Opcodes
 pub mod Header
 pub mod Frame
+pub mod RoundTrip
 pub mod Out
 pub mod Seen
