@@ -11,7 +11,7 @@ use Rattle.refusal.specs.Choice.{if_then_else_}
 use Rattle.wire.specs.Bytes.{octet, bytes}
 use Rattle.wire.specs.Layout.{Name, Layout, _bits_, size, laid}
 use Rattle.wire.specs.Header.{headerBytes}
-use Rattle.wire.specs.Out.{filled, Adds, spelled}
+use Rattle.wire.specs.Inner.Out.{filled, Adds, spelled}
 use Rattle.wire.specs.declared.writer.Out.{Out}
 use Rattle.wire.proofs.Bytes.{bytes-length, bytes-append, bytes-mod}
 use Rattle.wire.proofs.Fields.{laid-below, laid-append, size-append}
@@ -31,28 +31,28 @@ bytes-of-low k n = ap (λ (j : ℕ). bytes k (n % 2 ^ (octet * j))) (sym (zero-a
 
 -- a number of two parts
 pub adds-number : (a b c : Out) (m k x y n : ℕ) → y < 2 ^ (octet * k) → n % 2 ^ (octet * (m + k)) ≡ x * 2 ^ (octet * k) + y
-  → Adds a b (bytes m x) → Adds b c (bytes k y) → Adds a c (bytes (m + k) n)
+    → Adds a b (bytes m x) → Adds b c (bytes k y) → Adds a c (bytes (m + k) n)
 adds-number a b c m k x y n h e p q =
     let parts : bytes m x ++ bytes k y ≡ bytes (m + k) n =
-          sym (bytes-append m k x y h) ∙ ap (bytes (m + k)) (sym e) ∙ bytes-of-low (m + k) n in
+    sym (bytes-append m k x y h) ∙ ap (bytes (m + k)) (sym e) ∙ bytes-of-low (m + k) n in
     subst (Adds a c) parts (adds-join a b c (bytes m x) (bytes k y) p q)
 
 -- one byte stored at the cursor
 stored : (xs : List ℕ) (b : ℕ) → b < 256 → length xs < headerBytes
-  → record { bytes = set (filled xs .bytes) (length xs) b; at = length xs + 1 } ≡ filled (xs ++ bytes 1 b)
+    → record { bytes = set (filled xs .bytes) (length xs) b; at = length xs + 1 } ≡ filled (xs ++ bytes 1 b)
 unfolding filled bytes
 stored xs b h l =
     let n = length xs in
     let byte : b / 1 % 256 ≡ b = omega arith in
-    let room : headerBytes - n ≡ suc (31 - n) = omega arith in
-    let after : headerBytes - length (xs ++ (b ∷ [])) ≡ 31 - n = omega (arith, length-append xs (b ∷ [])) in
+    let room : headerBytes - n ≡ suc (headerBytes - suc n) = omega arith in
+    let after : headerBytes - length (xs ++ (b ∷ [])) ≡ headerBytes - suc n = omega (arith, length-append xs (b ∷ [])) in
     let kept : set (xs ++ replicate (headerBytes - n) 0) n b ≡ xs ++ (b ∷ []) ++ replicate (headerBytes - length (xs ++ (b ∷ []))) 0 =
-          ap (λ (k : ℕ). set (xs ++ replicate k 0) n b) room
-          ∙ set-append-seam xs 0 (replicate (31 - n) 0) b
-          ∙ sym (ap (λ (k : ℕ). xs ++ (b ∷ []) ++ replicate k 0) after ∙ append-snoc xs b (replicate (31 - n) 0)) in
+    ap (λ (k : ℕ). set (xs ++ replicate k 0) n b) room
+    ∙ set-append-seam xs 0 (replicate (headerBytes - suc n) 0) b
+    ∙ sym (ap (λ (k : ℕ). xs ++ (b ∷ []) ++ replicate k 0) after ∙ append-snoc xs b (replicate (headerBytes - suc n) 0)) in
     let next : n + 1 ≡ length (xs ++ (b ∷ [])) = omega (arith, length-append xs (b ∷ [])) in
     let made : _≡_ {A = Out} (record { bytes = set (xs ++ replicate (headerBytes - n) 0) n b; at = n + 1 }) (filled (xs ++ (b ∷ []))) =
-          λ i. record { bytes = kept i; at = next i } in
+    λ i. record { bytes = kept i; at = next i } in
     made ∙ ap (λ (x : ℕ). filled (xs ++ (x ∷ []))) (sym byte)
 
 pub adds-byte : (a : Out) (b : ℕ) → b < 256 → Adds a (record { bytes = set (a .bytes) (a .at) b; at = a .at + 1 }) (bytes 1 b)
@@ -72,7 +72,7 @@ spelled-append v fs gs m k p q =
     ∙ sym (ap₂ _++_ (ap (λ (j : ℕ). bytes j (laid v fs)) left) (ap (λ (j : ℕ). bytes j (laid v gs)) right))
 
 pub adds-layout : (a b c : Out) (v : Name → ℕ) (fs gs : Layout) (m k : ℕ) → size fs ≡ octet * m → size gs ≡ octet * k
-  → Adds a b (spelled v fs) → Adds b c (spelled v gs) → Adds a c (spelled v (fs ++ gs))
+    → Adds a b (spelled v fs) → Adds b c (spelled v gs) → Adds a c (spelled v (fs ++ gs))
 adds-layout a b c v fs gs m k p q f g =
     subst (Adds a c) (sym (spelled-append v fs gs m k p q)) (adds-join a b c (spelled v fs) (spelled v gs) f g)
 

@@ -8,7 +8,7 @@ use lib.ListN.{length}
 use Rattle.wire.specs.Layout as fields
 use Rattle.wire.specs.Opcodes.{known, isBare, headerLength, rowOf, carriesOf}
 use Rattle.wire.specs.Frame.{got, opcodeOf, lengthOf, restOf, valueIn, isBadRest, readOf}
-use Rattle.wire.specs.Seen.{bthIn, headerIn}
+use Rattle.wire.specs.Inner.Seen.{bthIn, headerIn}
 use Rattle.wire.specs.declared.Header.{Header}
 use Rattle.wire.specs.declared.Frame.{Frame}
 use Rattle.wire.specs.declared.Frame.the-variants.{Read, Refused}
@@ -65,9 +65,9 @@ module _ (s : List ℕ) (small : Small s) (h : 12 ≤ length s) (b : Bth) (eb : 
         rest e = read-rest s h is-known long (version-value ∙ v) (sym tested ∙ e)
 
         pub whole : isBadRest (length s - row .length) (b .pad) (not (row .payload)) ≡ false → (x : Header) → x ≡ headerIn s b row
-          → Read x (row .length) (length s - row .length - b .pad) ≡ readOf s
+            → Read x (row .length) (length s - row .length - b .pad) ≡ readOf s
         whole e x ex =
             let header : x ≡ got (valueIn s) = ex ∙ ap₂ (headerIn s) eb full-row ∙ sym (header-is s small long) in
             let answer : Read x (row .length) (length s - row .length - b .pad) ≡ Read (got (valueIn s)) (lengthOf s) (restOf s - valueIn s fields.pad) =
-                  λ i. Read (header i) (length-is i) (length s - length-is i - sym pad-value i) in
+            λ i. Read (header i) (length-is i) (length s - length-is i - sym pad-value i) in
             answer ∙ sym (read-whole s h is-known long (version-value ∙ v) (sym tested ∙ e))

@@ -20,7 +20,7 @@ use Rattle.wire.specs.Layout.{Name, Layout, size, has, laid, field}
 use Rattle.wire.specs.Opcodes.{known, hasReth, hasImmediate, hasAeth, joined, layout, headerLength, rowOf}
 use Rattle.wire.specs.Header.{headerBytes, put, written, isOutOfRange, writeOf}
 use Rattle.wire.specs.Frame.{got, opcodeOf, lengthOf, restOf, valueIn, frameRefusals, readOf}
-use Rattle.wire.specs.Seen.{seen, bthIn, aethIn, headerIn, count}
+use Rattle.wire.specs.Inner.Seen.{seen, bthIn, aethIn, headerIn, count}
 use Rattle.wire.specs.RoundTrip.{AsWritten, Back}
 use Rattle.wire.specs.declared.Header.{Header}
 use Rattle.wire.specs.declared.Frame.{Frame}
@@ -127,7 +127,7 @@ module _ (s : List ℕ) (small : Small s) (t : Taken s) (w : AsWritten s) where
       let far : h .far < 2 ^ 24 = omega (arith, ap (λ (y : Header). y .far) as-read, ap (λ (y : Bth). y .far) b, seen-below s small 5 3) in
       let psn : h .psn < psns = omega (arith, ap (λ (y : Header). y .psn) as-read, ap (λ (y : Bth). y .psn) b, seen-below s small 9 3) in
       let msn : h .msn < 2 ^ 24 =
-            subst (λ (y : Header). y .msn < 2 ^ 24) (sym as-read) (aeth-msn (12 + count (hasReth op) 16 + count (hasImmediate op) 4) (hasAeth op)) in
+      subst (λ (y : Header). y .msn < 2 ^ 24) (sym as-read) (aeth-msn (12 + count (hasReth op) 16 + count (hasImmediate op) 4) (hasAeth op)) in
       rw (le-ltb 3 (h .pad) pad, lt-leb (2 ^ 24) (h .far) far, lt-leb psns (h .psn) psn, lt-leb (2 ^ 24) (h .msn) msn)
 
   write-back : writeOf h ≡ record { size = Length (lengthOf s); bytes = take (lengthOf s) s ++ replicate (headerBytes - lengthOf s) 0 }
@@ -143,7 +143,8 @@ taken s e =
     record {
       is-known = not-false (known (opcodeOf s)) (none .1 .0);
       long = ltb-false (length s) (lengthOf s) (none .1 .1 .0);
-      version = eqb-true (valueIn s fields.version) 0 (not-false (eqb (valueIn s fields.version) 0) (none .1 .1 .1 .0)) }
+      version = eqb-true (valueIn s fields.version) 0 (not-false (eqb (valueIn s fields.version) 0) (none .1 .1 .1 .0));
+    }
 
 read-is : (s : List ℕ) → eqb (firstGiven (frameRefusals s)) 0 ≡ true → readOf s ≡ Read (got (valueIn s)) (lengthOf s) (restOf s - valueIn s fields.pad)
 unfolding readOf
@@ -157,13 +158,13 @@ pub back : Back
 back s h n payload small e w =
     by-test (eqb (firstGiven (frameRefusals s)) 0)
     (λ t.
-      let z : Read (got (valueIn s)) (lengthOf s) (restOf s - valueIn s fields.pad) ≡ Read h n payload = sym (read-is s t) ∙ e in
-      let header : got (valueIn s) ≡ h = cc in
-      let places : lengthOf s ≡ n = cc in
-      ap writeOf (sym header)
-      ∙ write-back s small (taken s (eqb-true (firstGiven (frameRefusals s)) 0 t)) w
-      ∙ ap {B = Written} (λ (k : ℕ). record { size = Length k; bytes = take k s ++ replicate (headerBytes - k) 0 }) places)
+    let z : Read (got (valueIn s)) (lengthOf s) (restOf s - valueIn s fields.pad) ≡ Read h n payload = sym (read-is s t) ∙ e in
+    let header : got (valueIn s) ≡ h = cc in
+    let places : lengthOf s ≡ n = cc in
+    ap writeOf (sym header)
+    ∙ write-back s small (taken s (eqb-true (firstGiven (frameRefusals s)) 0 t)) w
+    ∙ ap {B = Written} (λ (k : ℕ). record { size = Length k; bytes = take k s ++ replicate (headerBytes - k) 0 }) places)
     (λ t.
-      let z : Refused (firstGiven (frameRefusals s)) ≡ Read h n payload = sym (refused-is s t) ∙ e in
-      let never : _≡_ {A = ℕ} 0 1 = cc in
-      absurd (omega arith))
+    let z : Refused (firstGiven (frameRefusals s)) ≡ Read h n payload = sym (refused-is s t) ∙ e in
+    let never : _≡_ {A = ℕ} 0 1 = cc in
+    absurd (omega arith))

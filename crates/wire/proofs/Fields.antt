@@ -150,8 +150,8 @@ laid-field (f ∷ fs) d x =
     (ap (λ (y : ℕ). x / 2 ^ s % 2 ^ w * 2 ^ s + y)
     (laid-alike (λ n. field n (f ∷ fs) x) (λ n. field n fs x) fs
     (λ n e.
-      by-test (same n (f .name))
-      (λ t. not-both (has (f .name) fs) (ap (λ (m : Name). has m fs) (sym (same-name n (f .name) t)) ∙ e) alone)
-      (λ t. rw t))
+    by-test (same n (f .name))
+    (λ t. not-both (has (f .name) fs) (ap (λ (m : Name). has m fs) (sym (same-name n (f .name) t)) ∙ e) alone)
+    (λ t. rw t))
     ∙ laid-field fs (and-right (not (has (f .name) fs)) (distinct fs) d) x)
     ∙ sym (mod-pow-add x w s))

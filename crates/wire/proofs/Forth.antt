@@ -19,7 +19,7 @@ use Rattle.wire.specs.Layout.{Name, Layout, bth, reth, immediateData, ae
 use Rattle.wire.specs.Opcodes.{known, hasReth, hasImmediate, hasAeth, isBare, joined, layout, headerLength}
 use Rattle.wire.specs.Header.{headerBytes, put, written, isOutOfRange, writeOf}
 use Rattle.wire.specs.Frame.{got, opcodeOf, lengthOf, restOf, valueIn, isBadRest, readOf}
-use Rattle.wire.specs.Seen.{seen, found, bthIn, count}
+use Rattle.wire.specs.Inner.Seen.{seen, found, bthIn, count}
 use Rattle.wire.specs.RoundTrip.{Held, kept, Forth}
 use Rattle.wire.specs.declared.Header.{Header}
 use Rattle.wire.specs.declared.Written.{Written}
@@ -72,14 +72,14 @@ fitting h held r k =
     let op = h .opcode in
     let opcode : op < 256 = omega (arith, leb-true op 17 k) in
     let in-bth : Fitting v bth =
-          (opcode, (lit< tt, (lit< tt, (r .pad, (lit< tt, (held .pkey, (lit< tt, (r .far, (lit< tt, (lit< tt, (r .psn, tt))))))))))) in
+    (opcode, (lit< tt, (lit< tt, (r .pad, (lit< tt, (held .pkey, (lit< tt, (r .far, (lit< tt, (lit< tt, (r .psn, tt))))))))))) in
     let in-reth : Fitting v reth = (held .address, (held .key, (held .length, tt))) in
     let in-immediate : Fitting v immediateData = (held .value, tt) in
     let in-aeth : Fitting v aeth = (held .syndrome, (r .msn, tt)) in
     let with-reth = fitting-append v bth (if hasReth op then reth else []) in-bth (fitting-carried v reth (hasReth op) in-reth) in
     let with-immediate =
-          fitting-append v (bth ++ (if hasReth op then reth else [])) (if hasImmediate op then immediateData else [])
-          with-reth (fitting-carried v immediateData (hasImmediate op) in-immediate) in
+    fitting-append v (bth ++ (if hasReth op then reth else [])) (if hasImmediate op then immediateData else [])
+    with-reth (fitting-carried v immediateData (hasImmediate op) in-immediate) in
     fitting-append v (bth ++ (if hasReth op then reth else []) ++ (if hasImmediate op then immediateData else [])) (if hasAeth op then aeth else [])
     with-immediate (fitting-carried v aeth (hasAeth op) in-aeth)
 
@@ -136,7 +136,7 @@ module _ (h : Header) (held : Held h) (r : InRange h) (k : known (h .opcode) ≡
         ∙ field-written n
 
     read-back : isBadRest (length rest) (h .pad) (isBare (h .opcode)) ≡ false
-      → readOf frame ≡ Read (kept h) (headerLength (h .opcode)) (length rest - h .pad)
+        → readOf frame ≡ Read (kept h) (headerLength (h .opcode)) (length rest - h .pad)
     unfolding layout
     read-back b =
         let total = length-append (written h) rest in
@@ -145,9 +145,9 @@ module _ (h : Header) (held : Held h) (r : InRange h) (k : known (h .opcode) ≡
         let rest-is : restOf frame ≡ length rest = omega (arith, written-length h, length-there) in
         let pad-is : valueIn frame fields.pad ≡ h .pad = value-there fields.pad in
         let tested : isBadRest (restOf frame) (valueIn frame fields.pad) (isBare (opcodeOf frame)) ≡ false =
-              (λ i. isBadRest (rest-is i) (pad-is i) (isBare (opcode-there i))) ∙ b in
+        (λ i. isBadRest (rest-is i) (pad-is i) (isBare (opcode-there i))) ∙ b in
         let answer : Read (got (valueIn frame)) (lengthOf frame) (restOf frame - valueIn frame fields.pad) ≡ Read (kept h) (headerLength (h .opcode)) (length rest - h .pad) =
-              λ i. Read (got (λ n. value-there n i)) (length-there i) (rest-is i - pad-is i) in
+        λ i. Read (got (λ n. value-there n i)) (length-there i) (rest-is i - pad-is i) in
         read-whole frame least (ap known opcode-there ∙ k) long (value-there fields.version) tested ∙ answer
 
 -- ---- the theorem
@@ -156,14 +156,14 @@ pub forth : Forth
 forth h n rest held e b =
     by-test (isOutOfRange h)
     (λ t. let z : Refused 3 ≡ Length n = sym (ap (λ (w : Written). w .size) (write-range h t)) ∙ e in
-          let never : _≡_ {A = ℕ} 0 1 = cc in
-          absurd (omega arith))
+    let never : _≡_ {A = ℕ} 0 1 = cc in
+    absurd (omega arith))
     (λ t.
-      by-test (known (h .opcode))
-      (λ k. whole-header t k)
-      (λ k. let z : Refused 12 ≡ Length n = sym (ap (λ (w : Written). w .size) (write-opcode h t k)) ∙ e in
-            let never : _≡_ {A = ℕ} 0 1 = cc in
-            absurd (omega arith)))
+    by-test (known (h .opcode))
+    (λ k. whole-header t k)
+    (λ k. let z : Refused 12 ≡ Length n = sym (ap (λ (w : Written). w .size) (write-opcode h t k)) ∙ e in
+    let never : _≡_ {A = ℕ} 0 1 = cc in
+    absurd (omega arith)))
   where
     whole-header : isOutOfRange h ≡ false → known (h .opcode) ≡ true → readOf (take n (writeOf h .bytes) ++ rest) ≡ Read (kept h) n (length rest - h .pad)
     whole-header t k =
@@ -171,8 +171,8 @@ forth h n rest held e b =
         let z : Length (headerLength (h .opcode)) ≡ Length n = sym (ap (λ (x : Written). x .size) w) ∙ e in
         let places : headerLength (h .opcode) ≡ n = cc in
         let cut : take n (writeOf h .bytes) ≡ written h =
-              ap (λ (x : Written). take n (x .bytes)) w
-              ∙ take-at (written h) (replicate (headerBytes - headerLength (h .opcode)) 0) n (written-length h ∙ places) in
+        ap (λ (x : Written). take n (x .bytes)) w
+        ∙ take-at (written h) (replicate (headerBytes - headerLength (h .opcode)) 0) n (written-length h ∙ places) in
         ap (λ (l : List ℕ). readOf (l ++ rest)) cut
         ∙ read-back h held (in-range h t) k rest b
         ∙ ap (λ (m : ℕ). Read (kept h) m (length rest - h .pad)) places

@@ -9,7 +9,7 @@ use lib.ListN.{take, drop}
 use Rattle.wire.specs.Bytes.{number}
 use Rattle.wire.specs.Layout as fields
 use Rattle.wire.specs.Layout.{Layout, bth, reth, immediateData, aeth, field}
-use Rattle.wire.specs.Seen.{seen, found, bthIn, rethIn, immediateIn, aethIn}
+use Rattle.wire.specs.Inner.Seen.{seen, found, bthIn, rethIn, immediateIn, aethIn}
 use Rattle.wire.specs.declared.reader.Bth.{Bth}
 use Rattle.wire.specs.declared.reader.Reth.{Reth}
 use Rattle.wire.specs.declared.reader.Aeth.{Aeth}
@@ -21,12 +21,13 @@ module _ (s : List ℕ) (small : Small s) where
   flagBits = take 4 (drop 1 bth)
 
   pub bth-bytes : bthIn s ≡ record {
-      opcode = number (seen s 0 1);
-      pad = number (seen s 1 1) / 16 % 4;
-      version = number (seen s 1 1) % 16;
-      pkey = number (seen s 2 2);
-      far = number (seen s 5 3);
-      psn = number (seen s 9 3) }
+    opcode = number (seen s 0 1);
+    pad = number (seen s 1 1) / 16 % 4;
+    version = number (seen s 1 1) % 16;
+    pkey = number (seen s 2 2);
+    far = number (seen s 5 3);
+    psn = number (seen s 9 3);
+  }
   unfolding bthIn field
   bth-bytes =
       let opcode-at = found-place s small 0 0 1 11 fields.opcode [] (drop 1 bth) refl refl refl in
@@ -42,7 +43,8 @@ module _ (s : List ℕ) (small : Small s) where
         version = (version-at ∙ version-all) i;
         pkey = key-at i;
         far = far-at i;
-        psn = psn-at i }
+        psn = psn-at i;
+      }
 
   module _ (at : ℕ) where
     here : (k : ℕ) → number (seen s (at + 0) k) ≡ number (seen s at k)

@@ -15,7 +15,7 @@ use Rattle.wire.specs.Layout as fields
 use Rattle.wire.specs.Layout.{Name, Layout, bth, reth, immediateData, aeth, size, same, has, field}
 use Rattle.wire.specs.Opcodes.{known, hasReth, hasImmediate, hasAeth, isBare, joined, layout, headerLength, rowOf}
 use Rattle.wire.specs.Frame.{got, opcodeOf, lengthOf, restOf, valueIn, isBadRest, readOf}
-use Rattle.wire.specs.Seen.{seen, found, count, bthIn, rethIn, immediateIn, aethIn, headerIn}
+use Rattle.wire.specs.Inner.Seen.{seen, found, count, bthIn, rethIn, immediateIn, aethIn, headerIn}
 use Rattle.wire.specs.declared.Header.{Header}
 use Rattle.wire.specs.declared.Frame.{Frame}
 use Rattle.wire.specs.declared.Frame.the-variants.{Read, Refused}
@@ -71,7 +71,7 @@ module _ (s : List ℕ) (small : Small s) (r i a : Bool) (n : Name) where
       ∙ ap (λ (at : ℕ). found s at (count i 4) I n) (zero-add (12 + count r 16))
 
   pub in-aeth : has n bth ≡ false → has n reth ≡ false → has n immediateData ≡ false
-    → all ≡ found s (12 + count r 16 + count i 4) (count a 4) A n
+      → all ≡ found s (12 + count r 16 + count i 4) (count a 4) A n
   in-aeth e f g =
       found-second s small 0 (12 + count r 16 + count i 4) (count a 4) n (bth ++ R ++ I) A (size-carried a aeth 4 refl)
       (has-append n (bth ++ R) I (has-append n bth R e (absent n reth r f)) (absent n immediateData i g))
@@ -120,9 +120,9 @@ module _ (s : List ℕ) (small : Small s) (long : lengthOf s ≤ length s) where
   unfolding headerIn bthIn rethIn immediateIn aethIn
   header-is =
       let reth-value : (n : Name) → has n bth ≡ false → has n immediateData ≡ false → has n aeth ≡ false → valueIn s n ≡ found s 12 (count r 16) (if r then reth else []) n
-            = λ n e f g. value-is n ∙ in-reth s small r i a n e f g in
+      = λ n e f g. value-is n ∙ in-reth s small r i a n e f g in
       let aeth-value : (n : Name) → has n bth ≡ false → has n reth ≡ false → has n immediateData ≡ false → valueIn s n ≡ found s (12 + count r 16 + count i 4) (count a 4) (if a then aeth else []) n
-            = λ n e f g. value-is n ∙ in-aeth s small r i a n e f g in
+      = λ n e f g. value-is n ∙ in-aeth s small r i a n e f g in
       λ j. record {
         opcode = bth-value fields.opcode refl refl refl j;
         pad = bth-value fields.pad refl refl refl j;
@@ -134,7 +134,8 @@ module _ (s : List ℕ) (small : Small s) (long : lengthOf s ≤ length s) where
         length = reth-value fields.length refl refl refl j;
         value = (value-is fields.immediate ∙ in-immediate s small r i a fields.immediate refl refl refl) j;
         syndrome = aeth-value fields.syndrome refl refl refl j;
-        msn = aeth-value fields.msn refl refl refl j }
+        msn = aeth-value fields.msn refl refl refl j;
+      }
 
 -- ---- the cases of `readOf`
 
@@ -170,6 +171,6 @@ module _ (s : List ℕ) where
           read-rest b = rw (le-ltb (length s) 12 h, k, le-ltb (length s) (lengthOf s) l, eq-eqb (valueIn s fields.version) 0 v, b)
 
           pub read-whole : isBadRest (restOf s) (valueIn s fields.pad) (isBare (opcodeOf s)) ≡ false
-            → readOf s ≡ Read (got (valueIn s)) (lengthOf s) (restOf s - valueIn s fields.pad)
+              → readOf s ≡ Read (got (valueIn s)) (lengthOf s) (restOf s - valueIn s fields.pad)
           unfolding readOf
           read-whole b = rw (le-ltb (length s) 12 h, k, le-ltb (length s) (lengthOf s) l, eq-eqb (valueIn s fields.version) 0 v, b)

@@ -12,7 +12,8 @@ use Rattle.refusal.proofs.Cases.{by-test}
 use Rattle.wire.specs.Bytes.{octet}
 use Rattle.wire.specs.Layout.{Layout, bth, reth, immediateData, aeth, size}
 use Rattle.wire.specs.Opcodes.{known, hasReth, hasImmediate, hasAeth, joined, layout, headerLength, rowOf, nothing, carriesOf}
-use Rattle.wire.specs.Seen.{count}
+use Rattle.wire.specs.Header.{headerBytes}
+use Rattle.wire.specs.Inner.Seen.{count}
 use Rattle.wire.specs.declared.opcode.Carries.{Carries}
 use Rattle.wire.proofs.Fields.{size-append}
 use Rattle.wire.proofs.Table.{from, rule}
@@ -72,15 +73,15 @@ length-least op = joined-least (hasReth op) (hasImmediate op) (hasAeth op)
 opcode-at : (op : ℕ) → op < 18 → getD (from 0 18) op 0 ≡ op
 opcode-at op h = rule (λ n. n) (λ n. n) 0 (from 0 18) refl op h
 
--- every header fits its 32 bytes: no opcode has both RETH and AETH
-short : (op : ℕ) → op < 18 → leb (headerLength op) 32 ≡ true
+-- every header fits its bytes: no opcode has both RETH and AETH
+short : (op : ℕ) → op < 18 → leb (headerLength op) headerBytes ≡ true
 unfolding headerLength layout
 short op h =
-    ap (λ (n : ℕ). leb (headerLength n) 32) (sym (opcode-at op h))
-    ∙ rule (λ n. leb (headerLength n) 32) (λ n. true) 0 (from 0 18) refl op h
+    ap (λ (n : ℕ). leb (headerLength n) headerBytes) (sym (opcode-at op h))
+    ∙ rule (λ n. leb (headerLength n) headerBytes) (λ n. true) 0 (from 0 18) refl op h
 
-pub length-most : (op : ℕ) → known op ≡ true → headerLength op ≤ 32
-length-most op e = leb-true (headerLength op) 32 (short op (omega (arith, leb-true op 17 e)))
+pub length-most : (op : ℕ) → known op ≡ true → headerLength op ≤ headerBytes
+length-most op e = leb-true (headerLength op) headerBytes (short op (omega (arith, leb-true op 17 e)))
 
 -- an opcode that is not known is one whose row has no length
 pub unknown-by-length : (op : ℕ) → carriesOf op .length ≡ 0 → known op ≡ false

@@ -11,7 +11,7 @@ use Rattle.refusal.proofs.Cases.{by-test}
 use Rattle.refusal.specs.Choice.{if_then_else_}
 use Rattle.wire.specs.Bytes.{octet, number}
 use Rattle.wire.specs.Layout.{Name, Layout, _bits_, size, same, has, field}
-use Rattle.wire.specs.Seen.{seen, found}
+use Rattle.wire.specs.Inner.Seen.{seen, found}
 use Rattle.wire.proofs.Bytes.{Octets, number-below, number-append}
 use Rattle.wire.proofs.Fields.{same-self, field-low, field-first, field-second}
 
@@ -51,7 +51,7 @@ number-seen s at m k =
 
 -- the higher bytes and the lower
 pub join-seen : (s : List ℕ) (at m k x y : ℕ) → x ≡ number (seen s at m) → y ≡ number (seen s (at + m) k)
-  → x * 2 ^ (octet * k) + y ≡ number (seen s at (m + k))
+    → x * 2 ^ (octet * k) + y ≡ number (seen s at (m + k))
 join-seen s at m k x y p q = ap₂ (λ (a b : ℕ). a * 2 ^ (octet * k) + b) p q ∙ sym (number-seen s at m k)
 
 pub seen-below : (s : List ℕ) → Small s → (at k : ℕ) → number (seen s at k) < 2 ^ (octet * k)
@@ -107,12 +107,12 @@ found-one s h at k n =
 -- a group of whole bytes in the midst of a header: i bytes before it, k of its own, j after it
 module _ (s : List ℕ) (small : Small s) (at i k j : ℕ) (n : Name) (fs : Layout) where
   pub found-group : (g gs : Layout) → size g ≡ octet * k → size gs ≡ octet * j → has n fs ≡ false → has n gs ≡ false
-    → found s at (i + k + j) (fs ++ g ++ gs) n ≡ found s (at + i) k g n
+      → found s at (i + k + j) (fs ++ g ++ gs) n ≡ found s (at + i) k g n
   found-group g gs p q e f =
       found-first s small at (i + k) j n (fs ++ g) gs q f ∙ found-second s small at i k n fs g p e
 
   -- a single field there
   pub found-place : (gs : Layout) → size gs ≡ octet * j → has n fs ≡ false → has n gs ≡ false
-    → found s at (i + k + j) (fs ++ (n bits (octet * k) ∷ []) ++ gs) n ≡ number (seen s (at + i) k)
+      → found s at (i + k + j) (fs ++ (n bits (octet * k) ∷ []) ++ gs) n ≡ number (seen s (at + i) k)
   found-place gs q e f =
       found-group (n bits (octet * k) ∷ []) gs (add-zero (octet * k)) q e f ∙ found-one s small (at + i) k n

@@ -10,8 +10,8 @@ use Rattle.wire.specs.Bytes.{octet, bytes}
 use Rattle.wire.specs.Layout.{Name, bth, reth, immediateData, aeth, size, laid}
 use Rattle.wire.specs.Opcodes.{known, hasReth, hasImmediate, hasAeth, joined, layout, headerLength, rowOf}
 use Rattle.wire.specs.Header.{headerBytes, put, written, isOutOfRange, refused, writeOf}
-use Rattle.wire.specs.Out.{filled, Adds, spelled}
-use Rattle.wire.specs.Seen.{count}
+use Rattle.wire.specs.Inner.Out.{filled, Adds, spelled}
+use Rattle.wire.specs.Inner.Seen.{count}
 use Rattle.wire.specs.declared.Header.{Header}
 use Rattle.wire.specs.declared.Written.{Written}
 use Rattle.wire.specs.declared.Size.the-variants.{Length}
@@ -35,7 +35,8 @@ abbrev whole : Header → Written
 whole h =
     record {
       size = Length (headerLength (h .opcode));
-      bytes = written h ++ replicate (headerBytes - headerLength (h .opcode)) 0 }
+      bytes = written h ++ replicate (headerBytes - headerLength (h .opcode)) 0;
+    }
 
 pub write-whole : (h : Header) → isOutOfRange h ≡ false → known (h .opcode) ≡ true → writeOf h ≡ whole h
 unfolding writeOf
@@ -44,16 +45,16 @@ write-whole h e k = rw (e, k)
 -- ---- the headers one after the other
 
 module _ (v : Name → ℕ) (r i a : Bool) (o0 o1 o2 o3 o4 : Out)
-  (p1 : Adds o0 o1 (spelled v bth))
-  (p2 : Adds o1 o2 (spelled v (if r then reth else [])))
-  (p3 : Adds o2 o3 (spelled v (if i then immediateData else [])))
-  (p4 : Adds o3 o4 (spelled v (if a then aeth else []))) where
+    (p1 : Adds o0 o1 (spelled v bth))
+    (p2 : Adds o1 o2 (spelled v (if r then reth else [])))
+    (p3 : Adds o2 o3 (spelled v (if i then immediateData else [])))
+    (p4 : Adds o3 o4 (spelled v (if a then aeth else []))) where
   pub adds-joined : Adds o0 o4 (spelled v (joined r i a))
   adds-joined =
       let with-reth = adds-layout o0 o1 o2 v bth (if r then reth else []) 12 (count r 16) refl (size-carried r reth 16 refl) p1 p2 in
       let with-immediate =
-            adds-layout o0 o2 o3 v (bth ++ (if r then reth else [])) (if i then immediateData else []) (12 + count r 16) (count i 4)
-            (size-reth r i a) (size-carried i immediateData 4 refl) with-reth p3 in
+      adds-layout o0 o2 o3 v (bth ++ (if r then reth else [])) (if i then immediateData else []) (12 + count r 16) (count i 4)
+      (size-reth r i a) (size-carried i immediateData 4 refl) with-reth p3 in
       adds-layout o0 o3 o4 v (bth ++ (if r then reth else []) ++ (if i then immediateData else [])) (if a then aeth else [])
       (12 + count r 16 + count i 4) (count a 4) (size-immediate r i a) (size-carried a aeth 4 refl) with-immediate p4
 

@@ -28,7 +28,8 @@ got value =
       length = value fields.length;
       value = value fields.immediate;
       syndrome = value fields.syndrome;
-      msn = value fields.msn }
+      msn = value fields.msn;
+    }
 
 -- a frame's opcode, its headers' length, what stands in its fields, and the rest after its headers
 abbrev pub opcodeOf : List ℕ → ℕ

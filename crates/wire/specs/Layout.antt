@@ -17,7 +17,6 @@ pub record Field : Type 0 where
   pub width : ℕ
 
 infix 80 _bits_
-
 abbrev pub _bits_ : Name → ℕ → Field
 n bits w = record { name = n; width = w }
 

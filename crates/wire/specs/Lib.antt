@@ -4,5 +4,4 @@ pub mod Opcodes
 pub mod Header
 pub mod Frame
 pub mod RoundTrip
-pub mod Out
-pub mod Seen
+pub mod Inner

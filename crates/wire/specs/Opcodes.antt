@@ -62,7 +62,8 @@ rowOf op =
       first = isFirst op;
       last = isLast op;
       request = isRequest op;
-      answer = not (isRequest op) }
+      answer = not (isRequest op);
+    }
 
 -- of an opcode that is not known
 abbrev pub nothing : Carries
@@ -76,7 +77,8 @@ nothing =
       first = false;
       last = false;
       request = false;
-      answer = false }
+      answer = false;
+    }
 
 unfoldable pub carriesOf : ℕ → Carries
 carriesOf op = if known op then rowOf op else nothing

@@ -28,9 +28,12 @@ pub enum Size {
     Refused(u8),
 }
 
+// A header goes out as this many bytes, zeros after its own.
+pub const HEADER_BYTES: usize = 32;
+
 pub struct Written {
     pub size: Size,
-    pub bytes: [u8; 32],
+    pub bytes: [u8; HEADER_BYTES],
 }
 
 // What a frame holds, with the length of its headers and of its payload, or the refusal's number.

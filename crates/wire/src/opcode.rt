@@ -4,14 +4,23 @@ ghost use Rattle.wire.specs.Opcodes.{carriesOf};
 
 // A row is a sum: each header adds its bytes to the low eight bits and a bit of its own above them.
 const BTH: u32 = 12;
+
 const RETH: u32 = 0x100 + 16;
+
 const IMMEDIATE: u32 = 0x200 + 4;
+
 const AETH: u32 = 0x400 + 4;
+
 const PAYLOAD: u32 = 0x800;
+
 const FIRST: u32 = 0x1000;
+
 const LAST: u32 = 0x2000;
+
 const REQUEST: u32 = 0x4000;
+
 const ANSWER: u32 = 0x8000;
+
 const ONLY: u32 = FIRST + LAST;
 
 const ROWS: [u32; 18] = [

@@ -1,15 +1,26 @@
 // The reader: any bytes to the fields of their headers.
-use refusal::Refusal;
 use crate::Frame;
 use crate::Header;
 use crate::opcode::Carries;
-
+use refusal::Refusal;
 ghost use mathlib.Core.Path.{_≡_};
 ghost use mathlib.Core.Bool.{not};
 ghost use Prim.Native.Nat.{_+_, _≤_};
 ghost use Rattle.wire.specs.Bytes.{number};
-ghost use Rattle.wire.specs.Seen.{seen, count, bthIn, rethIn, immediateIn, aethIn, headerIn};
+ghost use Rattle.wire.specs.Inner.Seen.{seen, count, bthIn, rethIn, immediateIn, aethIn, headerIn};
 ghost use Rattle.wire.specs.Frame.{isBadRest, readOf};
+
+// Where a header's fields begin, from the header's start.
+const FLAGS_AT: usize = 1;
+const PKEY_AT: usize = 2;
+const FAR_AT: usize = 5;
+const PSN_AT: usize = 9;
+const BTH_BYTES: usize = 12;
+const KEY_AT: usize = 8;
+const LENGTH_AT: usize = 12;
+const RETH_BYTES: usize = 16;
+const IMMEDIATE_BYTES: usize = 4;
+const MSN_AT: usize = 1;
 
 struct Bth {
     opcode: u8,
@@ -69,14 +80,14 @@ fn eight(s: &[u8], at: usize) -> u64
 fn read_bth(s: &[u8]) -> Bth
     ensures { λ r. ⌜ r ≡ bthIn (now (s .entry)) ⌝ }
 {
-    let flags = byte(s, 1);
+    let flags = byte(s, FLAGS_AT);
     Bth {
         opcode: byte(s, 0),
         pad: flags / 16 % 4,
         version: flags % 16,
-        pkey: two(s, 2),
-        far: three(s, 5),
-        psn: three(s, 9),
+        pkey: two(s, PKEY_AT),
+        far: three(s, FAR_AT),
+        psn: three(s, PSN_AT),
     }
 }
 
@@ -87,8 +98,8 @@ fn read_reth(s: &[u8], at: usize, carried: bool) -> Reth
     if carried {
         Reth {
             address: eight(s, at),
-            key: four(s, at + 8),
-            length: four(s, at + 12),
+            key: four(s, at + KEY_AT),
+            length: four(s, at + LENGTH_AT),
         }
     } else {
         Reth {
@@ -113,7 +124,7 @@ fn read_aeth(s: &[u8], at: usize, carried: bool) -> Aeth
     if carried {
         Aeth {
             syndrome: byte(s, at),
-            msn: three(s, at + 1),
+            msn: three(s, at + MSN_AT),
         }
     } else {
         Aeth {
@@ -134,10 +145,10 @@ fn after(at: usize, carried: bool, bytes: usize) -> usize
 fn header(s: &[u8], bth: Bth, carries: Carries) -> Header
     ensures { λ r. ⌜ r ≡ headerIn (now (s .entry)) bth carries ⌝ }
 {
-    let reth = read_reth(s, 12, carries.reth);
-    let at = after(12, carries.reth, 16);
+    let reth = read_reth(s, BTH_BYTES, carries.reth);
+    let at = after(BTH_BYTES, carries.reth, RETH_BYTES);
     let value = read_immediate(s, at, carries.immediate);
-    let aeth = read_aeth(s, after(at, carries.immediate, 4), carries.aeth);
+    let aeth = read_aeth(s, after(at, carries.immediate, IMMEDIATE_BYTES), carries.aeth);
     Header {
         opcode: bth.opcode,
         pad: bth.pad,
@@ -172,7 +183,7 @@ fn is_bad_rest(rest: usize, pad: u8, payload: bool) -> bool
 pub fn read(frame: &[u8]) -> Frame
     ensures { λ r. ⌜ r ≡ readOf (now (frame .entry)) ⌝ }
 {
-    if frame.len() < 12 {
+    if frame.len() < BTH_BYTES {
         return Frame::Refused(Refusal::SHORT);
     }
     let bth = read_bth(frame);

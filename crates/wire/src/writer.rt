@@ -1,22 +1,22 @@
 // The writer: a header by value to 32 bytes by value.
-use psn::Psn;
-use refusal::Refusal;
+use crate::HEADER_BYTES;
 use crate::Header;
 use crate::Size;
 use crate::Written;
 use crate::opcode::Carries;
-
+use psn::Psn;
+use refusal::Refusal;
 ghost use mathlib.Core.Path.{_≡_};
 ghost use mathlib.Core.List.{[]};
 ghost use Rattle.refusal.specs.Choice.{if_then_else_};
 ghost use Rattle.wire.specs.Bytes.{bytes};
 ghost use Rattle.wire.specs.Layout.{bth, reth, immediateData, aeth};
 ghost use Rattle.wire.specs.Header.{put, isOutOfRange, refused as refusedBy, writeOf};
-ghost use Rattle.wire.specs.Out.{filled, Adds, spelled};
+ghost use Rattle.wire.specs.Inner.Out.{filled, Adds, spelled};
 
 // The bytes written so far, with zeros after them. It goes by value from field to field.
 struct Out {
-    bytes: [u8; 32],
+    bytes: [u8; HEADER_BYTES],
     at: usize,
 }
 
@@ -25,7 +25,7 @@ impl Out {
         ensures { λ r. ⌜ r ≡ filled [] ⌝ }
     {
         Out {
-            bytes: [0; 32],
+            bytes: [0; HEADER_BYTES],
             at: 0,
         }
     }
@@ -34,7 +34,7 @@ impl Out {
         ensures { λ r. ⌜ Adds self r (bytes 1 value) ⌝ }
     {
         let at = self.at;
-        if at < 32 {
+        if at < HEADER_BYTES {
             self.bytes[at] = value;
             self.at = at + 1;
         }
@@ -50,19 +50,22 @@ impl Out {
     fn three(self, value: u32) -> Out
         ensures { λ r. ⌜ Adds self r (bytes 3 value) ⌝ }
     {
-        self.byte((value / 65_536 % 256) as u8).two((value % 65_536) as u16)
+        self.byte((value / 65_536 % 256) as u8)
+            .two((value % 65_536) as u16)
     }
 
     fn four(self, value: u32) -> Out
         ensures { λ r. ⌜ Adds self r (bytes 4 value) ⌝ }
     {
-        self.two((value / 65_536) as u16).two((value % 65_536) as u16)
+        self.two((value / 65_536) as u16)
+            .two((value % 65_536) as u16)
     }
 
     fn eight(self, value: u64) -> Out
         ensures { λ r. ⌜ Adds self r (bytes 8 value) ⌝ }
     {
-        self.four((value / 4_294_967_296) as u32).four((value % 4_294_967_296) as u32)
+        self.four((value / 4_294_967_296) as u32)
+            .four((value % 4_294_967_296) as u32)
     }
 }
 
@@ -101,19 +104,22 @@ impl Out {
     }
 }
 
+// Far pair and MSN are 24 bits wide.
+const LIMIT: u32 = 16_777_216;
+
 fn is_out_of_range(h: Header) -> bool
     ensures { λ r. ⌜ r ≡ isOutOfRange h ⌝ }
 {
     if h.pad > 3 {
         return true;
     }
-    if h.far >= 16_777_216 {
+    if h.far >= LIMIT {
         return true;
     }
     if h.psn >= Psn::COUNT {
         return true;
     }
-    h.msn >= 16_777_216
+    h.msn >= LIMIT
 }
 
 fn refused(number: u8) -> Written
@@ -121,7 +127,7 @@ fn refused(number: u8) -> Written
 {
     Written {
         size: Size::Refused(number),
-        bytes: [0; 32],
+        bytes: [0; HEADER_BYTES],
     }
 }
 

@@ -1,4 +1,4 @@
--- How the writer keeps what it has written so far. No public contract cites this. Assumes nothing.
+-- How the writer keeps what it has written so far. Assumes nothing.
 use mathlib.Core.Path.{_≡_}
 use mathlib.Core.List.{List, [], _++_}
 use Prim.Native.Nat.{ℕ, _+_, _-_, _/_, _≤_}

@@ -1,4 +1,4 @@
--- How the reader looks at a frame. No public contract cites this. Assumes nothing.
+-- How the reader looks at a frame. Assumes nothing.
 use mathlib.Core.Bool.{Bool}
 use mathlib.Core.List.{List, [], _∷_}
 use Prim.Native.Nat.{ℕ, zero, suc, _+_}
@@ -31,7 +31,8 @@ bthIn s =
       version = value fields.version;
       pkey = value fields.pKey;
       far = value fields.farPair;
-      psn = value fields.psn }
+      psn = value fields.psn;
+    }
 
 -- how many bytes a header takes that may be carried
 abbrev pub count : Bool → ℕ → ℕ
@@ -67,4 +68,5 @@ headerIn s b row =
       length = r .length;
       value = immediateIn s at (row .immediate);
       syndrome = a .syndrome;
-      msn = a .msn }
+      msn = a .msn;
+    }

@@ -3,7 +3,7 @@ use mathlib.Core.Path.{_∙_, ap}
 use Prim.Native.Nat.{ℕ, _+_}
 use native.Mathlib.Omega.{arith}
 use denote.Ref.{now}
-use Rattle.wire.specs.Seen.{count, immediateIn, aethIn, headerIn}
+use Rattle.wire.specs.Inner.Seen.{count, immediateIn, aethIn, headerIn}
 use Rattle.wire.proofs.Rows.{count-most}
 use borrow.Author.Needs.{needs}
 use Rattle.wire.proofs.reader.header.Statement.{statement}
@@ -58,7 +58,8 @@ returns c =
       length = c1 .read-reth .ensures i .length;
       value = value i;
       syndrome = aeth i .syndrome;
-      msn = aeth i .msn }
+      msn = aeth i .msn;
+    }
 
 pub header-spec : {M : Type 1} → statement M
 header-spec =

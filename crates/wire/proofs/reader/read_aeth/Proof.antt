@@ -1,7 +1,7 @@
 -- `read_aeth` reads the AETH, if it is carried. Assumes nothing.
 use mathlib.Core.Path.{_≡_, sym, _∙_, ap}
 use denote.Ref.{now}
-use Rattle.wire.specs.Seen.{aethIn}
+use Rattle.wire.specs.Inner.Seen.{aethIn}
 use Rattle.wire.specs.declared.reader.Aeth.{Aeth}
 use Rattle.wire.proofs.Parts.{aeth-bytes, aeth-none}
 use borrow.Author.Needs.{needs}

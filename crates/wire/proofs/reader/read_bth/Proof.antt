@@ -37,13 +37,14 @@ returns c =
     let c0 = c1 .before in
     let flags = c1 .byte .ensures in
     let read : _≡_ {A = Bth} _ _ =
-          λ i. record {
-            opcode = c2 .byte2 .ensures i;
-            pad = flags i / 16 % 4;
-            version = flags i % 16;
-            pkey = c3 .two .ensures i;
-            far = c4 .three .ensures i;
-            psn = c .three2 .ensures i } in
+    λ i. record {
+      opcode = c2 .byte2 .ensures i;
+      pad = flags i / 16 % 4;
+      version = flags i % 16;
+      pkey = c3 .two .ensures i;
+      far = c4 .three .ensures i;
+      psn = c .three2 .ensures i;
+    } in
     read ∙ sym (bth-bytes (now (c0 .before .args .s)) (λ i. c0 .shared-slice-known .given i .fits))
 
 pub read-bth-spec : {M : Type 1} → statement M

@@ -1,7 +1,7 @@
 -- `read_immediate` reads the immediate, if it is carried. Assumes nothing.
 use mathlib.Core.Path.{_≡_, sym, _∙_, ap}
 use denote.Ref.{now}
-use Rattle.wire.specs.Seen.{immediateIn}
+use Rattle.wire.specs.Inner.Seen.{immediateIn}
 use Rattle.wire.proofs.Parts.{immediate-bytes, immediate-none}
 use borrow.Author.Needs.{needs}
 use Rattle.wire.proofs.reader.read_immediate.Statement.{statement}

@@ -1,7 +1,7 @@
 -- `read_reth` reads the RETH, if it is carried. Assumes nothing.
 use mathlib.Core.Path.{_≡_, sym, _∙_, ap}
 use denote.Ref.{now}
-use Rattle.wire.specs.Seen.{rethIn}
+use Rattle.wire.specs.Inner.Seen.{rethIn}
 use Rattle.wire.specs.declared.reader.Reth.{Reth}
 use Rattle.wire.proofs.Parts.{reth-bytes, reth-none}
 use borrow.Author.Needs.{needs}
@@ -34,7 +34,7 @@ returns c =
     let c0 = c1 .before .before in
     let a = c0 .before .args in
     let read : _≡_ {A = Reth} _ _ =
-          λ i. record { address = c1 .eight .ensures i; key = c2 .four .ensures i; length = c .four2 .ensures i } in
+    λ i. record { address = c1 .eight .ensures i; key = c2 .four .ensures i; length = c .four2 .ensures i } in
     read ∙ sym (ap (rethIn (now (a .s)) (a .at)) (c1 .before .if1 .taken) ∙ reth-bytes (now (a .s)) (λ i. c0 .shared-slice-known .given i .fits) (a .at))
 
 returns-2 : tie.Need-returns-2

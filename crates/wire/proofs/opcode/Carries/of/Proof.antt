@@ -34,7 +34,8 @@ unpacked row =
       first = bit row 0x1000;
       last = bit row 0x2000;
       request = bit row 0x4000;
-      answer = bit row 0x8000 }
+      answer = bit row 0x8000;
+    }
 
 row-is : (n : ℕ) → n < 18 → unpacked (getD rows n 0) ≡ carriesOf n
 unfolding carriesOf headerLength layout

@@ -5,7 +5,7 @@ use mathlib.Core.List.{[], _∷_}
 use Rattle.wire.specs.Layout as fields
 use Rattle.wire.specs.Layout.{Layout, _bits_, laid}
 use Rattle.wire.specs.Header.{put}
-use Rattle.wire.specs.Out.{Adds, spelled}
+use Rattle.wire.specs.Inner.Out.{Adds, spelled}
 use Rattle.wire.proofs.Adding.{adds-layout, adds-field, adds-carried, adds-not-carried}
 use Rattle.wire.proofs.writer.Out.aeth.Statement.{statement}
 use Rattle.wire.proofs.writer.Out.aeth.Tie as tie

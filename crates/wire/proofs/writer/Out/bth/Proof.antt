@@ -8,7 +8,7 @@ use Rattle.wire.specs.Bytes.{bytes}
 use Rattle.wire.specs.Layout as fields
 use Rattle.wire.specs.Layout.{Layout, _bits_, laid}
 use Rattle.wire.specs.Header.{put}
-use Rattle.wire.specs.Out.{Adds, spelled}
+use Rattle.wire.specs.Inner.Out.{Adds, spelled}
 use Rattle.wire.specs.declared.Header.{Header}
 use Rattle.wire.specs.declared.writer.Out.{Out}
 use Rattle.wire.proofs.Adding.{adds-layout, adds-field}

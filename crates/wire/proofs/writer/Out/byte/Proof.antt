@@ -4,7 +4,7 @@ use Rattle.wire.proofs.Adding.{adds-byte}
 use native.Mathlib.Omega.{arith}
 use mathlib.Core.Path.{_≡_, ap}
 use lib.ListN.{length}
-use Rattle.wire.specs.Out.{filled}
+use Rattle.wire.specs.Inner.Out.{filled}
 use Rattle.wire.specs.declared.writer.Out.{Out}
 use Rattle.wire.proofs.Bytes.{bytes-length}
 use Rattle.wire.proofs.writer.Out.byte.Statement.{statement}

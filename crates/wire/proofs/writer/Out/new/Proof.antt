@@ -1,6 +1,6 @@
 -- `Out::new` is filled with nothing. Assumes nothing.
 use mathlib.Core.Path.{refl}
-use Rattle.wire.specs.Out.{filled}
+use Rattle.wire.specs.Inner.Out.{filled}
 use Rattle.wire.proofs.writer.Out.new.Statement.{statement}
 use Rattle.wire.proofs.writer.Out.new.Tie as tie
 use Rattle.wire.proofs.writer.Out.new.Reads as reads
