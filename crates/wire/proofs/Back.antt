@@ -77,7 +77,7 @@ module _ (s : List ℕ) (small : Small s) (t : Taken s) (w : AsWritten s) where
   same-value fields.psn = refl
   same-value fields.address = refl
   same-value fields.key = refl
-  same-value fields.length = refl
+  same-value fields.dmaLength = refl
   same-value fields.immediate = refl
   same-value fields.syndrome = refl
   same-value fields.msn = refl

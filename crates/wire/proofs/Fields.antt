@@ -29,7 +29,7 @@ names : List Name
 names =
     fields.opcode ∷ fields.solicitedEvent ∷ fields.migration ∷ fields.pad ∷ fields.version ∷ fields.pKey
     ∷ fields.reservedByte ∷ fields.farPair ∷ fields.ackReq ∷ fields.reservedBits ∷ fields.psn
-    ∷ fields.address ∷ fields.key ∷ fields.length ∷ fields.immediate ∷ fields.syndrome ∷ fields.msn ∷ []
+    ∷ fields.address ∷ fields.key ∷ fields.dmaLength ∷ fields.immediate ∷ fields.syndrome ∷ fields.msn ∷ []
 
 named : (n : Name) → getD names (code n) fields.opcode ≡ n
 unfolding names
@@ -46,7 +46,7 @@ named fields.reservedBits = refl
 named fields.psn = refl
 named fields.address = refl
 named fields.key = refl
-named fields.length = refl
+named fields.dmaLength = refl
 named fields.immediate = refl
 named fields.syndrome = refl
 named fields.msn = refl

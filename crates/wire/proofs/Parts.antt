@@ -55,7 +55,7 @@ module _ (s : List ℕ) (small : Small s) where
     reth-bytes =
         let address-at = found-place s small at 0 8 8 fields.address [] (drop 1 reth) refl refl refl in
         let key-at = found-place s small at 8 4 4 fields.key (take 1 reth) (drop 2 reth) refl refl refl in
-        let length-at = found-place s small at 12 4 0 fields.length (take 2 reth) [] refl refl refl in
+        let length-at = found-place s small at 12 4 0 fields.dmaLength (take 2 reth) [] refl refl refl in
         λ i. record { address = (address-at ∙ here 8) i; key = key-at i; length = length-at i }
 
     pub immediate-bytes : immediateIn s at true ≡ number (seen s at 4)

@@ -131,7 +131,7 @@ module _ (s : List ℕ) (small : Small s) (long : lengthOf s ≤ length s) where
         psn = bth-value fields.psn refl refl refl j;
         address = reth-value fields.address refl refl refl j;
         key = reth-value fields.key refl refl refl j;
-        length = reth-value fields.length refl refl refl j;
+        length = reth-value fields.dmaLength refl refl refl j;
         value = (value-is fields.immediate ∙ in-immediate s small r i a fields.immediate refl refl refl) j;
         syndrome = aeth-value fields.syndrome refl refl refl j;
         msn = aeth-value fields.msn refl refl refl j;

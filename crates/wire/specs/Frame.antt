@@ -25,7 +25,7 @@ got value =
       psn = value fields.psn;
       address = value fields.address;
       key = value fields.key;
-      length = value fields.length;
+      length = value fields.dmaLength;
       value = value fields.immediate;
       syndrome = value fields.syndrome;
       msn = value fields.msn;
@@ -44,11 +44,11 @@ valueIn s n = field n (layout (opcodeOf s)) (number (take (lengthOf s) s))
 abbrev pub restOf : List ℕ → ℕ
 restOf s = length s - lengthOf s
 
--- "11 frame shorter than its headers (below 12 bytes, or below what its opcode needs); 12 opcode not 0 to 17; 13 transport version not 0;
--- 14 rest after headers not a multiple of 4, smaller than the pad count, or not empty for opcode 12 or 17"
+-- "14: rest after headers not a multiple of 4, smaller than the pad count, or not empty for opcode 12 or 17"
 abbrev pub isBadRest : ℕ → ℕ → Bool → Bool
 isBadRest rest pad bare = anyOf (not (eqb (rest % 4) 0) ∷ ltb rest pad ∷ (bare && ltb 0 rest) ∷ [])
 
+-- "11: frame shorter than its headers (below 12 bytes, or below what its opcode needs); 12: opcode not 0 to 17; 13: transport version not 0"
 abbrev pub frameRefusals : List ℕ → List Line
 frameRefusals s =
     ltb (length s) 12 gives 11

@@ -35,7 +35,7 @@ put h fields.reservedBits = 0
 put h fields.psn = h .psn
 put h fields.address = h .address
 put h fields.key = h .key
-put h fields.length = h .length
+put h fields.dmaLength = h .length
 put h fields.immediate = h .value
 put h fields.syndrome = h .syndrome
 put h fields.msn = h .msn
@@ -59,7 +59,5 @@ refused n = record { size = Refused n; bytes = replicate headerBytes 0 }
 unfoldable pub writeOf : Header → Written
 writeOf h =
     let n = firstGiven (writeRefusals h) in
-    let length = headerLength (h .opcode) in
-    if eqb n 0
-    then record { size = Length length; bytes = written h ++ replicate (headerBytes - length) 0 }
-    else refused n
+    let k = headerLength (h .opcode) in
+    if eqb n 0 then record { size = Length k; bytes = written h ++ replicate (headerBytes - k) 0 } else refused n

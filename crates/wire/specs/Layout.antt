@@ -8,7 +8,7 @@ use Rattle.refusal.specs.Choice.{if_then_else_}
 
 pub data Name : Type 0 where
   opcode solicitedEvent migration pad version pKey reservedByte farPair ackReq reservedBits psn : Name
-  address key length : Name
+  address key dmaLength : Name
   immediate : Name
   syndrome msn : Name
 
@@ -35,7 +35,7 @@ bth =
 
 -- "RETH, 16 bytes: address 64, key 32, length 32"
 abbrev pub reth : Layout
-reth = address bits 64 ∷ key bits 32 ∷ length bits 32 ∷ []
+reth = address bits 64 ∷ key bits 32 ∷ dmaLength bits 32 ∷ []
 
 -- "Immediate, 4 bytes"
 abbrev pub immediateData : Layout
@@ -65,7 +65,7 @@ code reservedBits = 9
 code psn = 10
 code address = 11
 code key = 12
-code length = 13
+code dmaLength = 13
 code immediate = 14
 code syndrome = 15
 code msn = 16

@@ -12,14 +12,23 @@ ghost use Rattle.wire.specs.Frame.{isBadRest, readOf};
 
 // Where a header's fields begin, from the header's start.
 const FLAGS_AT: usize = 1;
+
 const PKEY_AT: usize = 2;
+
 const FAR_AT: usize = 5;
+
 const PSN_AT: usize = 9;
+
 const BTH_BYTES: usize = 12;
+
 const KEY_AT: usize = 8;
+
 const LENGTH_AT: usize = 12;
+
 const RETH_BYTES: usize = 16;
+
 const IMMEDIATE_BYTES: usize = 4;
+
 const MSN_AT: usize = 1;
 
 struct Bth {
@@ -148,7 +157,11 @@ fn header(s: &[u8], bth: Bth, carries: Carries) -> Header
     let reth = read_reth(s, BTH_BYTES, carries.reth);
     let at = after(BTH_BYTES, carries.reth, RETH_BYTES);
     let value = read_immediate(s, at, carries.immediate);
-    let aeth = read_aeth(s, after(at, carries.immediate, IMMEDIATE_BYTES), carries.aeth);
+    let aeth = read_aeth(
+        s,
+        after(at, carries.immediate, IMMEDIATE_BYTES),
+        carries.aeth,
+    );
     Header {
         opcode: bth.opcode,
         pad: bth.pad,

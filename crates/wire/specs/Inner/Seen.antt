@@ -42,7 +42,7 @@ count carried k = if carried then k else 0
 unfoldable pub rethIn : List ℕ → ℕ → Bool → Reth
 rethIn s at carried =
     let value = found s at (count carried 16) (if carried then fields.reth else []) in
-    record { address = value fields.address; key = value fields.key; length = value fields.length }
+    record { address = value fields.address; key = value fields.key; length = value fields.dmaLength }
 
 unfoldable pub immediateIn : List ℕ → ℕ → Bool → ℕ
 immediateIn s at carried = found s at (count carried 4) (if carried then fields.immediateData else []) fields.immediate

@@ -30,9 +30,9 @@ returns c =
     let a = c1 .before .before .args in
     let v = put (a .h) in
     let end = c .four2 .result in
-    let at2 = adds-field (c2 .four .result) end v fields.length 4 (c .four2 .ensures) in
-    let at1 = adds-layout (c1 .eight .result) (c2 .four .result) end v (fields.key bits 32 ∷ []) (fields.length bits 32 ∷ []) 4 4 refl refl (adds-field _ _ v fields.key 4 (c2 .four .ensures)) at2 in
-    let whole = adds-layout (a .self) (c1 .eight .result) end v (fields.address bits 64 ∷ []) (fields.key bits 32 ∷ fields.length bits 32 ∷ []) 8 8 refl refl (adds-field _ _ v fields.address 8 (c1 .eight .ensures)) at1 in
+    let at2 = adds-field (c2 .four .result) end v fields.dmaLength 4 (c .four2 .ensures) in
+    let at1 = adds-layout (c1 .eight .result) (c2 .four .result) end v (fields.key bits 32 ∷ []) (fields.dmaLength bits 32 ∷ []) 4 4 refl refl (adds-field _ _ v fields.key 4 (c2 .four .ensures)) at2 in
+    let whole = adds-layout (a .self) (c1 .eight .result) end v (fields.address bits 64 ∷ []) (fields.key bits 32 ∷ fields.dmaLength bits 32 ∷ []) 8 8 refl refl (adds-field _ _ v fields.address 8 (c1 .eight .ensures)) at1 in
     adds-carried (a .self) end v fields.reth (a .carried) (c1 .before .if1 .taken) whole
 
 returns-2 : tie.Need-returns-2
