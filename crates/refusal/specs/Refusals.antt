@@ -6,7 +6,6 @@ use Prim.Native.Nat.{ℕ}
 use Rattle.refusal.specs.Choice.{if_then_else_}
 
 infix 80 _gives_
-
 pub record Line : Type 0 where
   pub holds : Bool
   pub number : ℕ
