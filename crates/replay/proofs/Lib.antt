@@ -1,0 +1,4 @@
+pub mod Answering
+pub mod Keeping
+pub mod Narrow
+pub mod Saying

@@ -1,0 +1,51 @@
+-- `lines::take` meets its contract: the line's end, a byte that is kept, or one that has no room. Assumes nothing.
+use mathlib.Core.Path.{refl}
+use Rattle.replay.proofs.Keeping.{line-ended, byte-kept, byte-left}
+use borrow.Author.Needs.{needs}
+use Rattle.replay.proofs.lines.take.Statement.{statement}
+use Rattle.replay.proofs.lines.take.Tie as tie
+
+end-line-requires : tie.Need-end-line-requires
+end-line-requires c κs = search needs
+
+same-length : tie.Need-same-length
+same-length c = search needs
+
+same-length-2 : tie.Need-same-length-2
+same-length-2 c = search needs
+
+returns : tie.Need-returns
+returns c =
+    let at-end-line = c .before .before in
+    let at-if1 = at-end-line .before .before .before in
+    let start = at-if1 .before .before .before in
+    line-ended (start .pre) (at-if1 .if1 .taken) (at-end-line .end-line .ensures .kept, at-end-line .end-line .ensures .number)
+
+slice-write-line : tie.Need-slice-write-line
+slice-write-line c = search needs
+
+add-next : tie.Need-add-next
+add-next c = search needs
+
+same-length-3 : tie.Need-same-length-3
+same-length-3 c = search needs
+
+returns-2 : tie.Need-returns-2
+returns-2 c = byte-kept (c .before .before .before .before .pre) (c .before .if1 .left) (c .if2 .taken) (refl, refl)
+
+returns-3 : tie.Need-returns-3
+returns-3 c = byte-left (c .before .before .before .before .pre) (c .before .if1 .left) (c .if2 .left)
+
+pub take-spec : {M : Type 1} → statement M
+take-spec =
+    tie.close
+    (tie.spec
+    end-line-requires
+    same-length
+    same-length-2
+    returns
+    slice-write-line
+    add-next
+    same-length-3
+    returns-2
+    returns-3)

@@ -1,0 +1,14 @@
+pub mod Asking
+pub mod Bools
+pub mod Cursor
+pub mod Decoding
+pub mod Digits
+pub mod Frames
+pub mod Lines
+pub mod Matching
+pub mod Numbers
+pub mod Parts
+pub mod Places
+pub mod Putting
+pub mod Rounds
+pub mod Spelling
