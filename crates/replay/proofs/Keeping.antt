@@ -1,5 +1,5 @@
 -- How the bytes of a line are kept, and its number. Assumes nothing.
-use mathlib.Core.Path.{_≡_, refl, sym, ap, ap₂, _∙_}
+use mathlib.Core.Path.{_≡_, refl, sym, ap, ap₂, subst, _∙_}
 use mathlib.Core.List.{List, [], _∷_, _++_, append-nil, append-assoc}
 use Prim.Native.Nat.{ℕ, zero, suc, _+_, _≤_, _<_, suc-le-suc}
 use native.Mathlib.Omega.{arith}
@@ -11,17 +11,18 @@ use Rattle.text.specs.Out.{Out, out, putAll, Puts}
 use Rattle.text.proofs.Parts.{drop-at}
 use Rattle.replay.specs.declared.lines.Place.{Place}
 use Rattle.replay.specs.Answer.{answerOf}
-use Rattle.replay.specs.Reading.{Reading, most, nextNumber, readByte, readAll, reading, Sound, settled, Ended}
+use Rattle.replay.specs.Reading.{Reading, most, half, nextNumber, readByte, readAll, reading, Sound, settled, Ended}
+use Rattle.replay.proofs.Room.{settled-most}
 
 abbrev state : ℕ → List ℕ → Reading
 state n l = record { number = n; kept = l }
 
 module _ {l : List ℕ} {p : Place} {b : ℕ} where
-  pub line-ended : {q : Place} → Sound l p → b ≡ 10 → (q .kept ≡ 0) × (q .number ≡ nextNumber (p .number)) → Sound l q × (reading l q ≡ readByte (reading l p) b)
+  pub line-ended : {q : Place} → Sound l p → b ≡ 10 → (q .kept ≡ 0) × (q .number ≡ nextNumber (p .number)) × (q .at ≤ half) → Sound l q × (reading l q ≡ readByte (reading l p) b)
   line-ended s e k =
-      (record { size = s .size; within = omega (arith, k .0) }, ap₂ (λ (n m : ℕ). state n (take m l)) (k .1) (k .0) ∙ rw (eq-eqb b 10 e))
+      (record { size = s .size; within = omega (arith, k .0); room = k .2 }, ap₂ (λ (n m : ℕ). state n (take m l)) (k .1) (k .0) ∙ rw (eq-eqb b 10 e))
 
-  pub byte-kept : {q : Place} → Sound l p → (b ≡ 10 → ⊥) → p .kept < length l → (q .kept ≡ p .kept + 1) × (q .number ≡ p .number)
+  pub byte-kept : {q : Place} → Sound l p → (b ≡ 10 → ⊥) → p .kept < length l → (q .kept ≡ p .kept + 1) × (q .number ≡ p .number) × (q .at ≡ p .at)
       → Sound (set l (p .kept) b) q × (reading (set l (p .kept) b) q ≡ readByte (reading l p) b)
   byte-kept s e h k =
       let front = take (p .kept) l in
@@ -29,7 +30,7 @@ module _ {l : List ℕ} {p : Place} {b : ℕ} where
       let one-more : take (p .kept + 1) (set l (p .kept) b) ≡ front ++ (b ∷ []) = rw add-one (take-suc-set l (p .kept) b h) in
       let all : take most (front ++ (b ∷ [])) ≡ front ++ (b ∷ [])
       = take-all most (front ++ (b ∷ [])) (simp length-append (omega (arith, size, s .size))) in (
-        record { size = length-set l (p .kept) b ∙ s .size; within = omega (arith, k .0, s .size) },
+        record { size = length-set l (p .kept) b ∙ s .size; within = omega (arith, k .0, s .size); room = omega (arith, k .2, s .room) },
         ap₂ (λ (n m : ℕ). state n (take m (set l (p .kept) b))) (k .1) (k .0) ∙ ap (state (p .number)) (one-more ∙ sym all) ∙ rw (ne-eqb b 10 e),
       )
 
@@ -77,6 +78,11 @@ answered l before p m {front} {after} {k} e h n s =
       bytes = ap (λ (x : Out). x .bytes) put;
       place = s .2 ∙ ap settled (n .2 ∙ ap (λ (x : Out). x .at) put);
     }
+
+-- and half the buffer is left for the next
+pub ended-room : {l before : List ℕ} {p : Place} {after : List ℕ} {q : Place} → Ended l before p after q → q .at ≤ half
+ended-room {l} {before} {p} e =
+    subst (λ (k : ℕ). k ≤ half) (sym (e .place)) (settled-most (putAll (out before (p .at)) (answerOf (take (p .kept) l) (p .number)) .at))
 
 -- ---- a line is what stands up to a newline
 

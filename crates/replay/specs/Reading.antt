@@ -36,15 +36,16 @@ readAll s (b ∷ bs) = readAll (readByte s b) bs
 abbrev pub reading : List ℕ → Place → Reading
 reading l p = record { number = p .number; kept = take (p .kept) l }
 
+-- half the buffer of answers: past it all is written out, so the other half is there for the next
+abbrev pub half : ℕ
+half = 32768
+
 pub record Sound (l : List ℕ) (p : Place) : Type 0 where
   pub size : length l ≡ most
   pub within : p .kept ≤ most
+  pub room : p .at ≤ half
 
 -- ---- the answers that are collected
-
--- half the buffer: past it all is written out, and the next answer goes to the start
-abbrev pub half : ℕ
-half = 32768
 
 abbrev pub settled : ℕ → ℕ
 settled k = cond (ltb half k) 0 k

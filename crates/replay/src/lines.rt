@@ -26,7 +26,7 @@ pub struct Place {
 
 impl Place {
     pub(crate) fn new() -> Self
-        ensures { λ r. ⌜ (r .kept ≡ 0) × (r .number ≡ 1) ⌝ }
+        ensures { λ r. ⌜ (r .kept ≡ 0) × (r .number ≡ 1) × (r .at ≡ 0) ⌝ }
     {
         Self {
             kept: 0,
@@ -42,7 +42,7 @@ impl Place {
     }
 
     pub(crate) fn ended(mut self) -> Self
-        ensures { λ r. ⌜ r .kept ≡ self .kept ⌝ }
+        ensures { λ r. ⌜ (r .kept ≡ self .kept) × (r .at ≡ self .at) ⌝ }
     {
         self.more = false;
         self

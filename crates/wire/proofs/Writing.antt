@@ -4,8 +4,9 @@ use mathlib.Core.Bool.{Bool, true, false}
 use mathlib.Core.List.{List, [], _∷_, _++_}
 use Prim.Native.Nat.{ℕ, _+_, _-_, _*_, _≤_}
 use native.Mathlib.Omega.{arith}
-use lib.ListN.{length, replicate}
+use lib.ListN.{length, replicate, length-append, length-replicate}
 use Rattle.refusal.specs.Choice.{if_then_else_}
+use Rattle.refusal.proofs.Cases.{by-test}
 use Rattle.wire.specs.Bytes.{octet, bytes}
 use Rattle.wire.specs.Layout.{Name, bth, reth, immediateData, aeth, size, laid}
 use Rattle.wire.specs.Opcodes.{known, hasReth, hasImmediate, hasAeth, joined, layout, headerLength, rowOf}
@@ -84,3 +85,18 @@ by-row h k o0 o1 o2 o3 o4 s p1 p2 p3 p4 =
 
 pub made : (h : Header) (row : Carries) → row ≡ rowOf (h .opcode) → known (h .opcode) ≡ true → Makes h row
 made h row e k = subst (Makes h) (sym e) (by-row h k)
+
+-- all 32 bytes come back, refused or not
+pub bytes-whole : (h : Header) → length (writeOf h .bytes) ≡ headerBytes
+bytes-whole h =
+    by-test (isOutOfRange h)
+    (λ t. ap (λ (w : Written). length (w .bytes)) (write-range h t) ∙ length-replicate {A = ℕ} headerBytes 0)
+    (λ t.
+    by-test (known (h .opcode))
+    (λ k.
+    let n = headerLength (h .opcode) in
+    let zeros = replicate (headerBytes - n) 0 in
+    let long : length (written h ++ zeros) ≡ headerBytes
+    = omega (arith, length-append (written h) zeros, length-replicate {A = ℕ} (headerBytes - n) 0, written-length h, length-most (h .opcode) k) in
+    ap (λ (w : Written). length (w .bytes)) (write-whole h t k) ∙ long)
+    (λ k. ap (λ (w : Written). length (w .bytes)) (write-opcode h t k) ∙ length-replicate {A = ℕ} headerBytes 0))

@@ -17,7 +17,7 @@ new-requires : tie.Need-new-requires Inv-loop μ-loop
 new-requires c κs = search needs
 
 loop-holds : tie.Need-loop-holds Inv-loop μ-loop
-loop-holds c = (record { size = c .before .before .before .pre; within = omega (arith, c .new .ensures .0) }, refl, refl)
+loop-holds c = (record { size = c .before .before .before .pre; within = omega (arith, c .new .ensures .0); room = omega (arith, c .new .ensures .2) }, refl, refl)
 
 goes-on-requires : tie.Need-goes-on-requires Inv-loop μ-loop
 goes-on-requires c κs = search needs

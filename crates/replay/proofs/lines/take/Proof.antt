@@ -1,6 +1,6 @@
 -- `lines::take` meets its contract: the line's end, a byte that is kept, or one that has no room. Assumes nothing.
 use mathlib.Core.Path.{refl}
-use Rattle.replay.proofs.Keeping.{line-ended, byte-kept, byte-left}
+use Rattle.replay.proofs.Keeping.{line-ended, byte-kept, byte-left, ended-room}
 use borrow.Author.Needs.{needs}
 use Rattle.replay.proofs.lines.take.Statement.{statement}
 use Rattle.replay.proofs.lines.take.Tie as tie
@@ -19,7 +19,8 @@ returns c =
     let at-end-line = c .before .before in
     let at-if1 = at-end-line .before .before .before in
     let start = at-if1 .before .before .before in
-    line-ended (start .pre) (at-if1 .if1 .taken) (at-end-line .end-line .ensures .kept, at-end-line .end-line .ensures .number)
+    let ended = at-end-line .end-line .ensures in
+    line-ended (start .pre) (at-if1 .if1 .taken) (ended .kept, ended .number, ended-room ended)
 
 slice-write-line : tie.Need-slice-write-line
 slice-write-line c = search needs
@@ -31,7 +32,7 @@ same-length-3 : tie.Need-same-length-3
 same-length-3 c = search needs
 
 returns-2 : tie.Need-returns-2
-returns-2 c = byte-kept (c .before .before .before .before .pre) (c .before .if1 .left) (c .if2 .taken) (refl, refl)
+returns-2 c = byte-kept (c .before .before .before .before .pre) (c .before .if1 .left) (c .if2 .taken) (refl, refl, refl)
 
 returns-3 : tie.Need-returns-3
 returns-3 c = byte-left (c .before .before .before .before .pre) (c .before .if1 .left) (c .if2 .left)
