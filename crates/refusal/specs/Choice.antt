@@ -1,14 +1,14 @@
 -- What every definition above is written with: a choice by a test, one of some tests, one of some numbers.
 -- Assumes nothing.
-use mathlib.Core.Bool.{Bool, true, false, _||_}
+use mathlib.Core.Bool.{Bool, false, cond, _||_}
 use mathlib.Core.List.{List, [], _∷_}
 use Prim.Native.Nat.{ℕ}
 use lib.Dec.{eqb}
 
+-- the library's `cond`, as it is read
 infixr 5 if_then_else_
 abbrev pub if_then_else_ {ℓ} : {A : Type ℓ} → Bool → A → A → A
-if_then_else_ true a b = a
-if_then_else_ false a b = b
+if_then_else_ t a b = cond t a b
 
 -- one of some tests holds
 abbrev pub anyOf : List Bool → Bool

@@ -9,7 +9,7 @@ use native.Mathlib.Numerals.{add-one}
 use lib.Dec.{leb, lit<}
 use lib.ListN.{length, getD, drop, drop-of-length-le}
 use borrow.Author.Tests.{le-leb, lt-leb, leb-true}
-use Rattle.text.proofs.Bools.{and-left, and-right}
+use Rattle.refusal.proofs.Cases.{and-left, and-right}
 use Rattle.text.proofs.Parts.{drop-at}
 use Rattle.replay.specs.Answer.{within, widest, headerOf}
 

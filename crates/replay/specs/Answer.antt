@@ -1,10 +1,11 @@
 -- What a line answers, from "Calls" of the trace protocol. Assumes nothing.
 use Prim.Native.Nat.{ℕ, suc, _-_, _^_}
 use Prim.Native.String.{String}
-use mathlib.Core.Bool.{Bool, true, cond, _&&_}
+use mathlib.Core.Bool.{Bool, true, _&&_}
 use mathlib.Core.List.{List, [], _∷_, _++_}
 use lib.Dec.{leb}
 use lib.ListN.{getD}
+use Rattle.refusal.specs.Choice.{if_then_else_}
 use Rattle.text.specs.declared.Ask.{Ask}
 use Rattle.text.specs.declared.Ask.the-variants.{Nothing, Unread, Fresh, Open, Post, Emit, Ack, Response, Timer, Close, Room, Show, Free, Write, Read}
 use Rattle.text.specs.Text.{bytes}
@@ -82,7 +83,7 @@ abbrev pub writtenText : Written → List ℕ
 writtenText w = sizeText (w .size) (w .bytes)
 
 abbrev pub writeText : List ℕ → List ℕ
-writeText a = cond (within 0 a widest) (writtenText (writeOf (headerOf a))) (refusedText 3)
+writeText a = if within 0 a widest then writtenText (writeOf (headerOf a)) else refusedText 3
 
 -- ---- "`read HEX`": "`frame OPCODE PAD PKEY FAR PSN ADDRESS KEY LENGTH VALUE SYNDROME MSN HEADERLEN PAYLOADLEN`"
 

@@ -1,10 +1,10 @@
 -- How lines are put together, byte by byte, and numbered. Assumes nothing.
 use Prim.Native.Nat.{ℕ, _+_, _-_, _^_, _≤_, min}
 use mathlib.Core.Path.{_≡_}
-use mathlib.Core.Bool.{cond}
 use mathlib.Core.List.{List, [], _∷_, _++_}
 use lib.Dec.{eqb, ltb}
 use lib.ListN.{length, take}
+use Rattle.refusal.specs.Choice.{if_then_else_}
 use Rattle.text.specs.Out.{out, putAll}
 use Rattle.replay.specs.Answer.{answerOf}
 use Rattle.replay.specs.declared.lines.Place.{Place}
@@ -25,8 +25,9 @@ nextNumber n = min (n + 1) (2 ^ 64 - 1)
 -- "A line ends at a newline"
 abbrev pub readByte : Reading → ℕ → Reading
 readByte s b =
-    cond (eqb b 10) (record { number = nextNumber (s .number); kept = [] })
-    (record { number = s .number; kept = take most (s .kept ++ (b ∷ [])) })
+    if eqb b 10
+    then record { number = nextNumber (s .number); kept = [] }
+    else record { number = s .number; kept = take most (s .kept ++ (b ∷ [])) }
 
 unfoldable pub readAll : Reading → List ℕ → Reading
 readAll s [] = s
@@ -48,7 +49,7 @@ pub record Sound (l : List ℕ) (p : Place) : Type 0 where
 -- ---- the answers that are collected
 
 abbrev pub settled : ℕ → ℕ
-settled k = cond (ltb half k) 0 k
+settled k = if ltb half k then 0 else k
 
 -- the answer to the line that has ended is put behind the others
 pub record Ended (l before : List ℕ) (p : Place) (after : List ℕ) (q : Place) : Type 0 where

@@ -14,7 +14,7 @@ use lib.ListN.{length, getD, drop, drop-of-length-le}
 use lib.Seq.{drop-cons}
 use Rattle.text.specs.Words.{blank, goesOn, onto, words}
 use Rattle.text.specs.Inner.{part, Skipped, Stopped, Told}
-use Rattle.text.proofs.Bools.{and-left, and-right}
+use Rattle.refusal.proofs.Cases.{and-left, and-right}
 use Rattle.text.proofs.Parts.{part-split, part-empty, part-more, part-length}
 
 -- none of them is a blank

@@ -12,7 +12,7 @@ use lib.Seq.{take-suc, take-all, drop-cons, set-at, length-take-le, append-snoc,
 use borrow.Author.Tests.{ltb-true, le-leb, lt-leb}
 use Rattle.text.specs.declared.Filled.the-variants.{Bytes, None}
 use Rattle.text.specs.Hex.{nibble, hexDigits, isHex, octets, fits, filled, buffered}
-use Rattle.text.proofs.Bools.{and-left, and-right}
+use Rattle.refusal.proofs.Cases.{and-left, and-right}
 
 pub octets-length : (w : List ℕ) → length (octets w) ≡ length w / 2
 unfolding octets

@@ -1,5 +1,4 @@
 pub mod Asking
-pub mod Bools
 pub mod Cursor
 pub mod Decoding
 pub mod Digits

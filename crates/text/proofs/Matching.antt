@@ -8,7 +8,7 @@ use lib.Dec.{eqb}
 use lib.ListN.{length, getD, drop, drop-of-length-le}
 use borrow.Author.Tests.{eq-eqb, ne-eqb, eqb-true}
 use Rattle.text.specs.Text.{same}
-use Rattle.text.proofs.Bools.{and-left, and-right}
+use Rattle.refusal.proofs.Cases.{and-left, and-right}
 use Rattle.text.proofs.Parts.{drop-at}
 
 pub lengths-differ : (a b : List ℕ) → (length a ≡ length b → ⊥) → false ≡ same a b

@@ -16,7 +16,8 @@ use Rattle.text.specs.Text.{bytes, same}
 use Rattle.text.specs.declared.Parsed.{Parsed}
 use Rattle.text.specs.Line.{Entry, table, called, asked}
 use Rattle.text.specs.Inner.{placeIn, placeOf, names, nameAt, rows, rowAt, unknown, fewArgs}
-use Rattle.text.proofs.Bools.{and-left, and-right, everyBelow, below-every}
+use Rattle.refusal.proofs.Below.{everyBelow, below-every}
+use Rattle.refusal.proofs.Cases.{and-left, and-right}
 use Rattle.text.proofs.Matching.{same-eq}
 
 -- ---- the code's names

@@ -14,7 +14,8 @@ use Rattle.text.specs.Text.{same}
 use Rattle.text.specs.Number.{digit, digits, value, numberOf}
 use Rattle.text.specs.Hex.{nibble, hexDigits, isHex, octets, glyph, lower, hexText}
 use Rattle.text.specs.Out.{decimalIn, decimal}
-use Rattle.text.proofs.Bools.{and-left, and-right, everyBelow, below-every}
+use Rattle.refusal.proofs.Below.{everyBelow, below-every}
+use Rattle.refusal.proofs.Cases.{and-left, and-right}
 use Rattle.text.proofs.Numbers.{reading-start}
 
 -- ---- numbers

@@ -2,10 +2,11 @@
 -- Assumes nothing.
 use Prim.Native.Nat.{ℕ, zero, suc, _-_, _≤_, _<_}
 use mathlib.Core.Path.{_≡_}
-use mathlib.Core.Bool.{Bool, true, false, cond}
+use mathlib.Core.Bool.{Bool, true, false}
 use mathlib.Core.List.{List, [], _∷_, map}
 use lib.Dec.{leb}
 use lib.ListN.{length, getD, take, drop}
+use Rattle.refusal.specs.Choice.{if_then_else_}
 use Rattle.text.specs.declared.Ask.the-variants.{Unread}
 use Rattle.text.specs.declared.Follow.{Follow}
 use Rattle.text.specs.declared.Follow.the-variants.{Numbers, Sizes, Hex, Unknown}
@@ -45,7 +46,7 @@ pub record Told (l : List ℕ) (from start end : ℕ) : Type 0 where
 -- the first place in a list of names that has w, or its length
 unfoldable pub placeIn : List ℕ → List (List ℕ) → ℕ
 placeIn w [] = 0
-placeIn w (n ∷ ns) = cond (same w n) zero (suc (placeIn w ns))
+placeIn w (n ∷ ns) = if same w n then zero else suc (placeIn w ns)
 
 abbrev pub names : List (List ℕ)
 names = map (λ (e : Entry). e .name) table

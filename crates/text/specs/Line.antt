@@ -1,10 +1,11 @@
 -- What a line asks, from "Reading" and "Calls" of the trace protocol. Assumes nothing.
 use Prim.Native.Nat.{ℕ, zero, suc, _-_}
 use Prim.Native.String.{String}
-use mathlib.Core.Bool.{cond, _&&_}
+use mathlib.Core.Bool.{_&&_}
 use mathlib.Core.List.{List, [], _∷_, _++_}
 use lib.Dec.{leb, ltb, eqb}
 use lib.ListN.{length, getD, replicate}
+use Rattle.refusal.specs.Choice.{if_then_else_}
 use Rattle.text.specs.declared.Number.{Number}
 use Rattle.text.specs.declared.Number.the-variants.{Is, Not}
 use Rattle.text.specs.declared.Ask.{Ask}
@@ -46,12 +47,12 @@ given a (these ns) = record { ask = a; args = ns ++ replicate (11 - length ns) 0
 
 -- "(at most 8,192 and 2,048, else `unread L`)"
 abbrev pub limited : ℕ → ℕ → Parsed → Parsed
-limited x y p = cond (leb (getD (p .args) 0 0) x && leb (getD (p .args) 1 0) y) p (alone Unread)
+limited x y p = if leb (getD (p .args) 0 0) x && leb (getD (p .args) 1 0) y then p else alone Unread
 
 -- "a word that is .. no HEX where one stands", or a missing or extra one
 abbrev pub givenHex : Ask → List (List ℕ) → Parsed
 givenHex a [] = alone Unread
-givenHex a (w ∷ []) = cond (isHex w) (alone a) (alone Unread)
+givenHex a (w ∷ []) = if isHex w then alone a else alone Unread
 givenHex a (w ∷ v ∷ ws) = alone Unread
 
 abbrev pub calledBy : Follow → Ask → List (List ℕ) → Parsed
@@ -92,15 +93,15 @@ table =
 -- "an unknown first word" is not read
 unfoldable pub asked : List Entry → List ℕ → List (List ℕ) → Parsed
 asked [] w ws = alone Unread
-asked (e ∷ es) w ws = cond (same w (e .name)) (called (e .row) ws) (asked es w ws)
+asked (e ∷ es) w ws = if same w (e .name) then called (e .row) ws else asked es w ws
 
 -- ---- the line
 
 -- "an empty line, a line of blanks, and one whose first word starts with `#` write nothing"
 abbrev pub askedOf : List (List ℕ) → Parsed
 askedOf [] = alone Nothing
-askedOf (w ∷ ws) = cond (eqb (getD w 0 0) 35) (alone Nothing) (asked table w ws)
+askedOf (w ∷ ws) = if eqb (getD w 0 0) 35 then alone Nothing else asked table w ws
 
 -- "A line of over 20,000 bytes is not read, whatever it holds. Else .."
 unfoldable pub parsedOf : List ℕ → Parsed
-parsedOf l = cond (ltb 20000 (length l)) (alone Unread) (askedOf (words l))
+parsedOf l = if ltb 20000 (length l) then alone Unread else askedOf (words l)

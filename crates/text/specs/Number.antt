@@ -1,9 +1,10 @@
 -- "A number is decimal digits, at most 2^64 − 1 (leading zeros are fine)."
 -- Assumes nothing.
 use Prim.Native.Nat.{ℕ, _+_, _-_, _*_, _^_}
-use mathlib.Core.Bool.{Bool, true, cond, _&&_}
+use mathlib.Core.Bool.{Bool, true, _&&_}
 use mathlib.Core.List.{List, [], _∷_}
 use lib.Dec.{leb, ltb}
+use Rattle.refusal.specs.Choice.{if_then_else_}
 use Rattle.text.specs.declared.Number.{Number}
 use Rattle.text.specs.declared.Number.the-variants.{Is, Not}
 
@@ -21,7 +22,7 @@ value n [] = n
 value n (b ∷ bs) = value (n * 10 + (b - 48)) bs
 
 abbrev pub numberFrom : ℕ → List ℕ → Number
-numberFrom n bs = cond (digits bs && ltb (value n bs) (2 ^ 64)) (Is (value n bs)) Not
+numberFrom n bs = if digits bs && ltb (value n bs) (2 ^ 64) then Is (value n bs) else Not
 
 -- no digits are no number
 unfoldable pub numberOf : List ℕ → Number

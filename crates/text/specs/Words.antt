@@ -1,9 +1,10 @@
 -- "It is words separated by spaces or tabs; a carriage return is a character like any other."
 -- Assumes nothing.
 use Prim.Native.Nat.{ℕ}
-use mathlib.Core.Bool.{Bool, false, cond, not, _||_}
+use mathlib.Core.Bool.{Bool, false, not, _||_}
 use mathlib.Core.List.{List, [], _∷_}
 use lib.Dec.{eqb}
+use Rattle.refusal.specs.Choice.{if_then_else_}
 
 -- a space or a tab
 abbrev pub blank : ℕ → Bool
@@ -21,4 +22,4 @@ onto b (w ∷ ws) = (b ∷ w) ∷ ws
 
 unfoldable pub words : List ℕ → List (List ℕ)
 words [] = []
-words (b ∷ bs) = cond (blank b) (words bs) (cond (goesOn bs) (onto b (words bs)) ((b ∷ []) ∷ words bs))
+words (b ∷ bs) = if blank b then words bs else if goesOn bs then onto b (words bs) else (b ∷ []) ∷ words bs

@@ -5,9 +5,9 @@ use mathlib.Core.List.{List, [], _∷_, _++_}
 use Prim.Native.Nat.{ℕ, _+_, _*_, _/_, _≤_, _<_}
 use native.Mathlib.Omega.{arith}
 use lib.Dec.{leb}
-use lib.ListN.{getD}
 use borrow.Author.Tests.{leb-true}
 use Rattle.refusal.specs.Choice.{if_then_else_}
+use Rattle.refusal.proofs.Below.{below-every}
 use Rattle.refusal.proofs.Cases.{by-test}
 use Rattle.wire.specs.Bytes.{octet}
 use Rattle.wire.specs.Layout.{Layout, bth, reth, immediateData, aeth, size}
@@ -16,7 +16,6 @@ use Rattle.wire.specs.Header.{headerBytes}
 use Rattle.wire.specs.Inner.Seen.{count}
 use Rattle.wire.specs.declared.opcode.Carries.{Carries}
 use Rattle.wire.proofs.Fields.{size-append}
-use Rattle.wire.proofs.Table.{from, rule}
 
 pub carries-known : (op : ℕ) → known op ≡ true → carriesOf op ≡ rowOf op
 unfolding carriesOf
@@ -69,16 +68,10 @@ pub length-least : (op : ℕ) → 12 ≤ headerLength op
 unfolding headerLength layout
 length-least op = joined-least (hasReth op) (hasImmediate op) (hasAeth op)
 
--- the opcodes that are known, in a list
-opcode-at : (op : ℕ) → op < 18 → getD (from 0 18) op 0 ≡ op
-opcode-at op h = rule (λ n. n) (λ n. n) 0 (from 0 18) refl op h
-
 -- every header fits its bytes: no opcode has both RETH and AETH
 short : (op : ℕ) → op < 18 → leb (headerLength op) headerBytes ≡ true
 unfolding headerLength layout
-short op h =
-    ap (λ (n : ℕ). leb (headerLength n) headerBytes) (sym (opcode-at op h))
-    ∙ rule (λ n. leb (headerLength n) headerBytes) (λ n. true) 0 (from 0 18) refl op h
+short op h = below-every (λ n. leb (headerLength n) headerBytes) 18 refl op h
 
 pub length-most : (op : ℕ) → known op ≡ true → headerLength op ≤ headerBytes
 length-most op e = leb-true (headerLength op) headerBytes (short op (omega (arith, leb-true op 17 e)))
