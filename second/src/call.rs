@@ -3,6 +3,7 @@
 use crate::limits::MOST_ROOM;
 use crate::message::PostArguments;
 use crate::pair::OpenArguments;
+use crate::wire::FIELDS;
 use crate::words::{hex, number, words};
 
 /// One call, its numbers of any width.
@@ -18,12 +19,9 @@ pub enum Call {
     Room { bytes: usize, numbers: usize },
     Show { pair: u64 },
     Free,
-    Write { fields: [u64; WRITE_FIELDS] },
+    Write { fields: [u64; FIELDS] },
     Read { frame: Vec<u8> },
 }
-
-/// OPCODE PAD PKEY FAR PSN ADDRESS KEY LENGTH VALUE SYNDROME MSN.
-pub const WRITE_FIELDS: usize = 11;
 
 /// What a line holds.
 pub enum Meaning {

@@ -5,13 +5,13 @@ use std::io::{self, BufRead, Write};
 
 use crate::answer::Refusal;
 use crate::audit;
-use crate::call::{meaning, Call, Meaning, WRITE_FIELDS};
+use crate::call::{meaning, Call, Meaning};
 use crate::card::Card;
 use crate::emission::Record;
 use crate::limits::FIRST_ROOM;
 use crate::message::narrow;
 use crate::pair::Pair;
-use crate::wire::{self, Frame, Header};
+use crate::wire::{self, Frame, Header, FIELDS};
 use crate::words::{to_hex, Line, Lines};
 
 /// The tables, and the lengths of the lent buffers.
@@ -105,7 +105,7 @@ fn shown(number: u64, pair: Option<&Pair>) -> String {
 }
 
 /// A number too wide for its field is refusal 3, before the writer's own refusals.
-fn written(fields: [u64; WRITE_FIELDS]) -> Result<String, Refusal> {
+fn written(fields: [u64; FIELDS]) -> Result<String, Refusal> {
     let byte = |number| u8::try_from(number).map_err(|_| Refusal::OutOfRange);
     let [opcode, pad, pkey, far, psn, address, key, length, value, syndrome, msn] = fields;
     let header = Header {
@@ -126,21 +126,7 @@ fn written(fields: [u64; WRITE_FIELDS]) -> Result<String, Refusal> {
 }
 
 fn read(frame: &Frame) -> String {
-    let header = &frame.header;
-    let fields: [u64; WRITE_FIELDS] = [
-        header.opcode.into(),
-        header.pad.into(),
-        header.pkey.into(),
-        header.far.into(),
-        header.psn.into(),
-        header.address,
-        header.key.into(),
-        header.length.into(),
-        header.immediate.into(),
-        header.syndrome.into(),
-        header.msn.into(),
-    ];
-    joined("frame", fields) + &format!(" {} {}", frame.header_length, frame.payload_length)
+    joined("frame", frame.header.fields()) + &format!(" {} {}", frame.header_length, frame.payload_length)
 }
 
 /// Reads a whole trace and writes its answers.

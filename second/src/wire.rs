@@ -28,6 +28,27 @@ pub struct Header {
     pub msn: u32,
 }
 
+/// Fields of a header, in the order in which a trace has them.
+pub const FIELDS: usize = 11;
+
+impl Header {
+    pub fn fields(&self) -> [u64; FIELDS] {
+        [
+            self.opcode.into(),
+            self.pad.into(),
+            self.pkey.into(),
+            self.far.into(),
+            self.psn.into(),
+            self.address,
+            self.key.into(),
+            self.length.into(),
+            self.immediate.into(),
+            self.syndrome.into(),
+            self.msn.into(),
+        ]
+    }
+}
+
 /// A header as bytes, zeros after it.
 #[derive(Clone, Copy, PartialEq, Eq, Debug)]
 pub struct Written {

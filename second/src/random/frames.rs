@@ -3,7 +3,7 @@
 use super::draft::Draft;
 use super::numbers::Numbers;
 use crate::opcode;
-use crate::wire::{self, Header};
+use crate::wire::{self, Header, FIELDS};
 use crate::words::to_hex;
 
 fn header(numbers: &mut Numbers) -> Header {
@@ -24,21 +24,8 @@ fn header(numbers: &mut Numbers) -> Header {
 
 /// One field in six lines goes to or over its border.
 pub fn write(numbers: &mut Numbers) -> Draft {
-    let header = header(numbers);
-    let mut fields = [
-        header.opcode.into(),
-        header.pad.into(),
-        header.pkey.into(),
-        header.far.into(),
-        header.psn.into(),
-        header.address,
-        header.key.into(),
-        header.length.into(),
-        header.immediate.into(),
-        header.syndrome.into(),
-        header.msn.into(),
-    ];
-    const LIMITS: [u128; 11] =
+    let mut fields = header(numbers).fields();
+    const LIMITS: [u128; FIELDS] =
         [18, 4, 1 << 16, 1 << 24, 1 << 24, 1 << 64, 1 << 32, 1 << 32, 1 << 32, 1 << 8, 1 << 24];
     if numbers.one_in(6) {
         let at = numbers.below(LIMITS.len() as u64) as usize;
