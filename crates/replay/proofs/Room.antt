@@ -14,7 +14,7 @@ use Rattle.text.specs.Text.{bytes}
 use Rattle.text.specs.Words.{words}
 use Rattle.text.specs.Hex.{octets, lower, hexText}
 use Rattle.text.specs.Line.{parsedOf}
-use Rattle.text.specs.Out.{Out, out, putAll, decimalIn, decimal}
+use Rattle.text.specs.Out.{out, putAll, decimalIn}
 use Rattle.text.proofs.Putting.{put-fits}
 use Rattle.wire.specs.declared.Size.{Size}
 use Rattle.wire.specs.declared.Size.the-variants as size

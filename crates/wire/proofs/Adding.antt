@@ -1,8 +1,8 @@
 -- The writer's cursor: what one call adds and then another is what both add. Assumes nothing.
-use mathlib.Core.Path.{_≡_, refl, sym, _∙_, ap, ap₂, subst}
+use mathlib.Core.Path.{_≡_, sym, _∙_, ap, ap₂, subst}
 use mathlib.Core.Bool.{Bool, true, false, true≢false, false≢true}
 use mathlib.Core.List.{List, [], _∷_, _++_, append-assoc, append-nil}
-use Prim.Native.Nat.{ℕ, zero, suc, _+_, _-_, _*_, _/_, _%_, _^_, _<_, _≤_}
+use Prim.Native.Nat.{ℕ, suc, _+_, _-_, _*_, _/_, _%_, _^_, _<_}
 use native.Mathlib.Omega.{arith}
 use native.Mathlib.Nat.{zero-add}
 use lib.ListN.{length, set, replicate, length-append}
@@ -13,7 +13,7 @@ use Rattle.wire.specs.Layout.{Name, Layout, _bits_, size, laid}
 use Rattle.wire.specs.Header.{headerBytes}
 use Rattle.wire.specs.Inner.Out.{filled, Adds, spelled}
 use Rattle.wire.specs.declared.writer.Out.{Out}
-use Rattle.wire.proofs.Bytes.{bytes-length, bytes-append, bytes-mod}
+use Rattle.wire.proofs.Bytes.{bytes-append, bytes-mod}
 use Rattle.wire.proofs.Fields.{laid-below, laid-append, size-append}
 
 pub adds-none : (a : Out) → Adds a a []

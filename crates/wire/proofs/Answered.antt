@@ -1,16 +1,15 @@
 -- What the reader's code answers, from what it has read, is what the definition says. Assumes nothing.
-use mathlib.Core.Path.{_≡_, refl, sym, _∙_, ap, ap₂, subst}
+use mathlib.Core.Path.{_≡_, refl, sym, _∙_, ap, ap₂}
 use mathlib.Core.Bool.{Bool, true, false, not}
 use mathlib.Core.List.{List}
 use Prim.Native.Nat.{ℕ, _-_, _≤_, _<_}
 use native.Mathlib.Omega.{arith}
 use lib.ListN.{length}
 use Rattle.wire.specs.Layout as fields
-use Rattle.wire.specs.Opcodes.{known, isBare, headerLength, rowOf, carriesOf}
+use Rattle.wire.specs.Opcodes.{known, isBare, rowOf, carriesOf}
 use Rattle.wire.specs.Frame.{got, opcodeOf, lengthOf, restOf, valueIn, isBadRest, readOf}
 use Rattle.wire.specs.Inner.Seen.{bthIn, headerIn}
 use Rattle.wire.specs.declared.Header.{Header}
-use Rattle.wire.specs.declared.Frame.{Frame}
 use Rattle.wire.specs.declared.Frame.the-variants.{Read, Refused}
 use Rattle.wire.specs.declared.opcode.Carries.{Carries}
 use Rattle.wire.specs.declared.reader.Bth.{Bth}

@@ -1,8 +1,8 @@
 -- "Writing what was read gives the same bytes when the reserved bits were zero and those three as written." Assumes nothing.
 use mathlib.Core.Path.{_≡_, refl, sym, _∙_, ap, subst}
-use mathlib.Core.Bool.{Bool, true, false, not, _||_}
-use mathlib.Core.List.{List, [], _∷_, _++_}
-use Prim.Native.Nat.{ℕ, zero, suc, _+_, _-_, _*_, _/_, _%_, _^_, _≤_, _<_}
+use mathlib.Core.Bool.{Bool, true, false}
+use mathlib.Core.List.{List, _++_}
+use Prim.Native.Nat.{ℕ, _+_, _-_, _*_, _^_, _≤_, _<_}
 use native.Mathlib.Omega.{arith}
 use native.Mathlib.Nat.{zero-add, mod-eq-of-lt}
 use lib.Dec.{eqb, lit<}
@@ -10,20 +10,18 @@ use lib.ListN.{length, take, replicate}
 use lib.Seq.{length-take-le}
 use borrow.Author.Tests.{ltb-false, eqb-true, lt-leb, le-ltb, not-false}
 use Rattle.psn.specs.Psn.{psns}
-use Rattle.refusal.specs.Choice.{if_then_else_}
 use Rattle.refusal.specs.Refusals.{firstGiven}
 use Rattle.refusal.proofs.Cases.{by-test}
 use Rattle.refusal.proofs.Given.{none-given}
 use Rattle.wire.specs.Bytes.{octet, number, bytes}
 use Rattle.wire.specs.Layout as fields
-use Rattle.wire.specs.Layout.{Name, Layout, size, has, laid, field}
+use Rattle.wire.specs.Layout.{Name, size, laid, field}
 use Rattle.wire.specs.Opcodes.{known, hasReth, hasImmediate, hasAeth, joined, layout, headerLength, rowOf}
 use Rattle.wire.specs.Header.{headerBytes, put, written, isOutOfRange, writeOf}
 use Rattle.wire.specs.Frame.{got, opcodeOf, lengthOf, restOf, valueIn, frameRefusals, readOf}
-use Rattle.wire.specs.Inner.Seen.{seen, bthIn, aethIn, headerIn, count}
+use Rattle.wire.specs.Inner.Seen.{bthIn, aethIn, headerIn, count}
 use Rattle.wire.specs.RoundTrip.{AsWritten, Back}
 use Rattle.wire.specs.declared.Header.{Header}
-use Rattle.wire.specs.declared.Frame.{Frame}
 use Rattle.wire.specs.declared.Frame.the-variants.{Read, Refused}
 use Rattle.wire.specs.declared.Size.the-variants.{Length}
 use Rattle.wire.specs.declared.Written.{Written}
@@ -34,7 +32,7 @@ use Rattle.wire.proofs.Fields.{distinct, laid-alike, laid-field}
 use Rattle.wire.proofs.Rows.{length-bytes}
 use Rattle.wire.proofs.Seeing.{Small, seen-take, seen-octets, seen-below}
 use Rattle.wire.proofs.Parts.{bth-bytes, aeth-bytes, aeth-none}
-use Rattle.wire.proofs.Reading.{opcode-is, pad-is, header-is}
+use Rattle.wire.proofs.Reading.{opcode-is, header-is}
 use Rattle.wire.proofs.Writing.{write-whole}
 
 -- ---- what a frame that is read has

@@ -3,9 +3,9 @@
 use mathlib.Core.Path.{_≡_, refl, sym, _∙_, ap, ap₂}
 use mathlib.Core.Bool.{Bool, true, false, not, _&&_, true≢false, false≢true}
 use mathlib.Core.List.{List, [], _∷_, _++_}
-use Prim.Native.Nat.{ℕ, zero, suc, _+_, _*_, _/_, _%_, _^_, _<_}
+use Prim.Native.Nat.{ℕ, _+_, _*_, _/_, _%_, _^_, _<_}
 use native.Mathlib.Omega.{arith}
-use native.Mathlib.Nat.{zero-add, zero-mul, add-mul, mul-assoc, add-assoc, mod-lt, mod-mod, mod-eq-of-lt}
+use native.Mathlib.Nat.{zero-add, zero-mul, mod-lt, mod-mod, mod-eq-of-lt}
 use lib.Arith.{digits-lt}
 use lib.Pow.{pow-pos, pow-add, high, low, mod-pow-add, field as pow-field, mod-mod-pow, shr-shr}
 use Rattle.refusal.specs.Choice.{if_then_else_}
@@ -13,7 +13,7 @@ use Rattle.refusal.proofs.Cases.{by-test, if-case, not-both, and-left, and-righ
 use lib.ListN.{getD}
 use borrow.Author.Tests.{eqb-true, eq-eqb, not-true}
 use Rattle.wire.specs.Layout as fields
-use Rattle.wire.specs.Layout.{Name, Field, Layout, size, code, same, has, laid, field}
+use Rattle.wire.specs.Layout.{Name, Layout, size, code, same, has, laid, field}
 use Rattle.wire.proofs.Bytes.{regroup}
 
 pub size-append : (fs gs : Layout) → size (fs ++ gs) ≡ size fs + size gs

@@ -1,13 +1,13 @@
 -- "Reading a written header .. gives the same fields." Assumes nothing.
-use mathlib.Core.Path.{_≡_, refl, sym, _∙_, ap, subst, fun-ext}
+use mathlib.Core.Path.{_≡_, refl, sym, _∙_, ap, subst}
 use mathlib.Core.Bool.{Bool, true, false, _||_}
 use mathlib.Core.List.{List, [], _∷_, _++_}
-use Prim.Native.Nat.{ℕ, zero, suc, _+_, _-_, _*_, _/_, _%_, _^_, _≤_, _<_}
+use Prim.Native.Nat.{ℕ, zero, suc, _+_, _-_, _*_, _/_, _^_, _≤_, _<_}
 use native.Mathlib.Omega.{arith}
 use native.Mathlib.Nat.{mod-lt, mod-eq-of-lt}
 use lib.Dec.{ltb, leb, lit<}
 use lib.Pow.{pow-pos}
-use lib.ListN.{length, take, drop, getD, replicate, length-append, List·getD-append}
+use lib.ListN.{length, take, replicate, length-append, List·getD-append}
 use lib.Seq.{take-all, take-at}
 use borrow.Author.Tests.{ltb-false, leb-true, leb-false}
 use Rattle.psn.specs.Psn.{psns}
@@ -16,21 +16,19 @@ use Rattle.refusal.proofs.Cases.{by-test, or-left, or-right}
 use Rattle.wire.specs.Bytes.{octet, number, bytes}
 use Rattle.wire.specs.Layout as fields
 use Rattle.wire.specs.Layout.{Name, Layout, bth, reth, immediateData, aeth, size, has, laid, field}
-use Rattle.wire.specs.Opcodes.{known, hasReth, hasImmediate, hasAeth, isBare, joined, layout, headerLength}
+use Rattle.wire.specs.Opcodes.{known, hasReth, hasImmediate, hasAeth, isBare, layout, headerLength}
 use Rattle.wire.specs.Header.{headerBytes, put, written, isOutOfRange, writeOf}
 use Rattle.wire.specs.Frame.{got, opcodeOf, lengthOf, restOf, valueIn, isBadRest, readOf}
-use Rattle.wire.specs.Inner.Seen.{seen, found, bthIn, count}
+use Rattle.wire.specs.Inner.Seen.{seen, bthIn, count}
 use Rattle.wire.specs.RoundTrip.{Held, kept, Forth}
 use Rattle.wire.specs.declared.Header.{Header}
 use Rattle.wire.specs.declared.Written.{Written}
-use Rattle.wire.specs.declared.Size.{Size}
 use Rattle.wire.specs.declared.Size.the-variants.{Length, Refused}
 use Rattle.wire.specs.declared.Frame.the-variants.{Read}
-use Rattle.wire.proofs.Bytes.{bytes-length, number-bytes}
+use Rattle.wire.proofs.Bytes.{number-bytes}
 use Rattle.wire.proofs.Fields.{Fitting, laid-below, field-laid}
 use Rattle.wire.proofs.Rows.{length-bytes, length-least, size-joined}
-use Rattle.wire.proofs.Seeing.{Small, seen-take, one-byte}
-use Rattle.wire.proofs.Parts.{bth-bytes}
+use Rattle.wire.proofs.Seeing.{Small, seen-take}
 use Rattle.wire.proofs.Reading.{in-bth, read-whole, opcode-is}
 use Rattle.wire.proofs.Writing.{written-length, write-range, write-opcode, write-whole}
 

@@ -1,18 +1,15 @@
 -- Each header, read from a frame by its bytes. Assumes nothing.
-use mathlib.Core.Path.{_≡_, refl, sym, _∙_, ap}
+use mathlib.Core.Path.{_≡_, refl, _∙_, ap}
 use mathlib.Core.Bool.{true, false}
-use mathlib.Core.List.{List, [], _∷_}
+use mathlib.Core.List.{List, []}
 use Prim.Native.Nat.{ℕ, _+_, _/_, _%_}
 use native.Mathlib.Omega.{arith}
 use native.Mathlib.Nat.{add-zero}
 use lib.ListN.{take, drop}
 use Rattle.wire.specs.Bytes.{number}
 use Rattle.wire.specs.Layout as fields
-use Rattle.wire.specs.Layout.{Layout, bth, reth, immediateData, aeth, field}
-use Rattle.wire.specs.Inner.Seen.{seen, found, bthIn, rethIn, immediateIn, aethIn}
-use Rattle.wire.specs.declared.reader.Bth.{Bth}
-use Rattle.wire.specs.declared.reader.Reth.{Reth}
-use Rattle.wire.specs.declared.reader.Aeth.{Aeth}
+use Rattle.wire.specs.Layout.{Layout, bth, reth, aeth, field}
+use Rattle.wire.specs.Inner.Seen.{seen, bthIn, rethIn, immediateIn, aethIn}
 use Rattle.wire.proofs.Seeing.{Small, found-group, found-place}
 
 module _ (s : List ℕ) (small : Small s) where

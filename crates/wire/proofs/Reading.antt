@@ -1,26 +1,23 @@
 -- Reading, case by case: each field in its own header, what is refused, and what is read. Assumes nothing.
-use mathlib.Core.Path.{_≡_, refl, sym, _∙_, ap, ap₂, subst}
+use mathlib.Core.Path.{_≡_, refl, sym, _∙_, ap}
 use mathlib.Core.Bool.{Bool, true, false, not, _&&_, _||_, true≢false}
 use mathlib.Core.List.{List, [], _∷_, _++_}
-use Prim.Native.Nat.{ℕ, _+_, _-_, _*_, _/_, _%_, _≤_, _<_}
+use Prim.Native.Nat.{ℕ, _+_, _-_, _%_, _≤_, _<_}
 use native.Mathlib.Omega.{arith}
 use native.Mathlib.Nat.{zero-add}
 use lib.Dec.{ltb, eqb}
-use lib.ListN.{length, take, getD}
+use lib.ListN.{length}
 use borrow.Author.Tests.{ltb-false, lt-ltb, le-ltb, eq-eqb, ne-eqb}
 use Rattle.refusal.specs.Choice.{if_then_else_}
 use Rattle.refusal.proofs.Cases.{by-test, or-left, or-right}
-use Rattle.wire.specs.Bytes.{octet, number}
+use Rattle.wire.specs.Bytes.{number}
 use Rattle.wire.specs.Layout as fields
-use Rattle.wire.specs.Layout.{Name, Layout, bth, reth, immediateData, aeth, size, same, has, field}
+use Rattle.wire.specs.Layout.{Name, Layout, bth, reth, immediateData, aeth, same, has, field}
 use Rattle.wire.specs.Opcodes.{known, hasReth, hasImmediate, hasAeth, isBare, joined, layout, headerLength, rowOf}
 use Rattle.wire.specs.Frame.{got, opcodeOf, lengthOf, restOf, valueIn, isBadRest, readOf}
 use Rattle.wire.specs.Inner.Seen.{seen, found, count, bthIn, rethIn, immediateIn, aethIn, headerIn}
-use Rattle.wire.specs.declared.Header.{Header}
-use Rattle.wire.specs.declared.Frame.{Frame}
 use Rattle.wire.specs.declared.Frame.the-variants.{Read, Refused}
-use Rattle.wire.specs.declared.opcode.Carries.{Carries}
-use Rattle.wire.proofs.Rows.{size-carried, size-reth, size-immediate, size-joined, length-least}
+use Rattle.wire.proofs.Rows.{size-carried, size-joined}
 use Rattle.wire.proofs.Seeing.{Small, seen-take, one-byte, found-first, found-second}
 use Rattle.wire.proofs.Parts.{bth-bytes}
 

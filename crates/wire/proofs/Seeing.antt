@@ -1,6 +1,6 @@
 -- What the reader sees of a frame: runs of bytes join, and a field is found in the bytes of its own group. Assumes nothing.
 use mathlib.Core.Path.{_≡_, refl, sym, _∙_, ap, ap₂, subst}
-use mathlib.Core.Bool.{Bool, true, false, true≢false}
+use mathlib.Core.Bool.{false, true≢false}
 use mathlib.Core.List.{List, [], _∷_, _++_}
 use Prim.Native.Nat.{ℕ, zero, suc, _+_, _*_, _/_, _%_, _^_, _<_, _≤_}
 use native.Mathlib.Omega.{arith}
@@ -8,7 +8,6 @@ use native.Mathlib.Nat.{zero-add, add-zero, suc-add, add-suc, mod-eq-of-lt}
 use lib.ListN.{length, getD, take, drop}
 use lib.Seq.{drop-cons}
 use Rattle.refusal.proofs.Cases.{by-test}
-use Rattle.refusal.specs.Choice.{if_then_else_}
 use Rattle.wire.specs.Bytes.{octet, number}
 use Rattle.wire.specs.Layout.{Name, Layout, _bits_, size, same, has, field}
 use Rattle.wire.specs.Inner.Seen.{seen, found}

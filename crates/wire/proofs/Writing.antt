@@ -1,13 +1,13 @@
 -- Writing, case by case: what is refused, and what the cursor has written at the end. Assumes nothing.
 use mathlib.Core.Path.{_≡_, refl, sym, _∙_, ap, subst}
 use mathlib.Core.Bool.{Bool, true, false}
-use mathlib.Core.List.{List, [], _∷_, _++_}
-use Prim.Native.Nat.{ℕ, _+_, _-_, _*_, _≤_}
+use mathlib.Core.List.{[], _++_}
+use Prim.Native.Nat.{ℕ, _+_, _-_, _≤_}
 use native.Mathlib.Omega.{arith}
 use lib.ListN.{length, replicate, length-append, length-replicate}
 use Rattle.refusal.specs.Choice.{if_then_else_}
 use Rattle.refusal.proofs.Cases.{by-test}
-use Rattle.wire.specs.Bytes.{octet, bytes}
+use Rattle.wire.specs.Bytes.{bytes}
 use Rattle.wire.specs.Layout.{Name, bth, reth, immediateData, aeth, size, laid}
 use Rattle.wire.specs.Opcodes.{known, hasReth, hasImmediate, hasAeth, joined, layout, headerLength, rowOf}
 use Rattle.wire.specs.Header.{headerBytes, put, written, isOutOfRange, refused, writeOf}

@@ -13,7 +13,6 @@ use Rattle.wire.specs.Layout.{Name, laid}
 use Rattle.wire.specs.Opcodes.{known, layout, headerLength}
 use Rattle.wire.specs.declared.Header.{Header}
 use Rattle.wire.specs.declared.Written.{Written}
-use Rattle.wire.specs.declared.Size.{Size}
 use Rattle.wire.specs.declared.Size.the-variants.{Length, Refused}
 
 -- "A header goes out as 32 bytes by value"

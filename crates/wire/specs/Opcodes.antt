@@ -1,6 +1,6 @@
 -- What each opcode carries. Assumes nothing.
 use mathlib.Core.Bool.{Bool, false, not}
-use mathlib.Core.List.{List, [], _∷_, _++_}
+use mathlib.Core.List.{[], _∷_, _++_}
 use Prim.Native.Nat.{ℕ, _/_}
 use lib.Dec.{leb}
 use Rattle.refusal.specs.Choice.{if_then_else_, among}

@@ -8,12 +8,11 @@ use Prim.Native.Nat.{ℕ, _-_, _^_, _<_}
 use lib.ListN.{length, take, replicate, getD}
 use Rattle.refusal.specs.Choice.{if_then_else_}
 use Rattle.wire.specs.Layout as fields
-use Rattle.wire.specs.Layout.{Name, has}
+use Rattle.wire.specs.Layout.{has}
 use Rattle.wire.specs.Opcodes.{isBare, layout}
 use Rattle.wire.specs.Header.{headerBytes, put, writeOf}
 use Rattle.wire.specs.Frame.{got, valueIn, isBadRest, readOf}
 use Rattle.wire.specs.declared.Header.{Header}
-use Rattle.wire.specs.declared.Written.{Written}
 use Rattle.wire.specs.declared.Size.the-variants.{Length}
 use Rattle.wire.specs.declared.Frame.the-variants.{Read}
 

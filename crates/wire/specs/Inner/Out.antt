@@ -1,6 +1,6 @@
 -- How the writer keeps what it has written so far. Assumes nothing.
 use mathlib.Core.Path.{_≡_}
-use mathlib.Core.List.{List, [], _++_}
+use mathlib.Core.List.{List, _++_}
 use Prim.Native.Nat.{ℕ, _+_, _-_, _/_, _≤_}
 use lib.ListN.{length, replicate}
 use Rattle.wire.specs.Bytes.{octet, bytes}

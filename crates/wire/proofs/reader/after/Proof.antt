@@ -3,8 +3,6 @@ use native.Mathlib.Omega.{arith}
 use borrow.Author.Needs.{needs}
 use Rattle.wire.proofs.reader.after.Statement.{statement}
 use Rattle.wire.proofs.reader.after.Tie as tie
-use Rattle.wire.proofs.reader.after.Reads as reads
-use Rattle.wire.proofs.reader.after.Lts as lts
 
 add-result : tie.Need-add-result
 add-result c = search needs

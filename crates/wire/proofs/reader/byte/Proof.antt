@@ -6,8 +6,6 @@ use Rattle.wire.proofs.Seeing.{one-byte}
 use borrow.Author.Needs.{needs}
 use Rattle.wire.proofs.reader.byte.Statement.{statement}
 use Rattle.wire.proofs.reader.byte.Tie as tie
-use Rattle.wire.proofs.reader.byte.Reads as reads
-use Rattle.wire.proofs.reader.byte.Lts as lts
 
 shared-slice-read-result : tie.Need-shared-slice-read-result
 shared-slice-read-result c = search needs

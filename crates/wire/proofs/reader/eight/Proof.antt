@@ -4,9 +4,6 @@ use Rattle.wire.proofs.Seeing.{join-seen}
 use borrow.Author.Needs.{needs}
 use Rattle.wire.proofs.reader.eight.Statement.{statement}
 use Rattle.wire.proofs.reader.eight.Tie as tie
-use Rattle.wire.proofs.reader.eight.Reads as reads
-use Rattle.wire.proofs.reader.eight.Lts as lts
-use Rattle.wire.proofs.reader.four.Reads as four-reads
 
 four-requires : tie.Need-four-requires
 four-requires c κs = search needs

@@ -4,9 +4,6 @@ use Rattle.wire.proofs.Seeing.{join-seen}
 use borrow.Author.Needs.{needs}
 use Rattle.wire.proofs.reader.four.Statement.{statement}
 use Rattle.wire.proofs.reader.four.Tie as tie
-use Rattle.wire.proofs.reader.four.Reads as reads
-use Rattle.wire.proofs.reader.four.Lts as lts
-use Rattle.wire.proofs.reader.two.Reads as two-reads
 
 two-requires : tie.Need-two-requires
 two-requires c κs = search needs

@@ -8,12 +8,6 @@ use Rattle.wire.proofs.Rows.{count-most}
 use borrow.Author.Needs.{needs}
 use Rattle.wire.proofs.reader.header.Statement.{statement}
 use Rattle.wire.proofs.reader.header.Tie as tie
-use Rattle.wire.proofs.reader.header.Reads as reads
-use Rattle.wire.proofs.reader.header.Lts as lts
-use Rattle.wire.proofs.reader.after.Reads as after-reads
-use Rattle.wire.proofs.reader.read_aeth.Reads as read-aeth-reads
-use Rattle.wire.proofs.reader.read_immediate.Reads as read-immediate-reads
-use Rattle.wire.proofs.reader.read_reth.Reads as read-reth-reads
 
 read-reth-requires : tie.Need-read-reth-requires
 read-reth-requires c κs = search needs

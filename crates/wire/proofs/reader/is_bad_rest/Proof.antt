@@ -6,8 +6,6 @@ use borrow.Author.Tests.{eq-eqb, ne-eqb, lt-ltb, le-ltb}
 use Rattle.refusal.proofs.Cases.{or-none}
 use Rattle.wire.proofs.reader.is_bad_rest.Statement.{statement}
 use Rattle.wire.proofs.reader.is_bad_rest.Tie as tie
-use Rattle.wire.proofs.reader.is_bad_rest.Reads as reads
-use Rattle.wire.proofs.reader.is_bad_rest.Lts as lts
 
 returns : tie.Need-returns
 returns c = rw (ne-eqb (c .before .args .rest % 4) 0 (c .if1 .taken))

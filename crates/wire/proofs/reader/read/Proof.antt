@@ -1,8 +1,7 @@
 -- `read` meets its contract: the refusals in their order, else the fields. Assumes nothing.
-use mathlib.Core.Path.{_≡_, sym, _∙_}
+use mathlib.Core.Path.{sym, _∙_}
 use mathlib.Core.Bool.{not}
 use Prim.Native.Nat.{_-_, _≤_}
-use native.Mathlib.Omega.{arith}
 use denote.Ref.{now}
 use lib.ListN.{length}
 use Rattle.wire.proofs.Seeing.{Small}
@@ -11,12 +10,6 @@ use Rattle.wire.proofs.Answered.{unknown, cut, version, rest, whole}
 use borrow.Author.Needs.{needs}
 use Rattle.wire.proofs.reader.read.Statement.{statement}
 use Rattle.wire.proofs.reader.read.Tie as tie
-use Rattle.wire.proofs.reader.read.Reads as reads
-use Rattle.wire.proofs.reader.read.Lts as lts
-use Rattle.wire.proofs.opcode.Carries.of.Reads as of-reads
-use Rattle.wire.proofs.reader.header.Reads as header-reads
-use Rattle.wire.proofs.reader.is_bad_rest.Reads as is-bad-rest-reads
-use Rattle.wire.proofs.reader.read_bth.Reads as read-bth-reads
 
 returns : tie.Need-returns
 returns c = sym (read-short (now (c .before .before .args .frame)) (c .if1 .taken))

@@ -7,10 +7,6 @@ use Rattle.wire.proofs.Parts.{aeth-bytes, aeth-none}
 use borrow.Author.Needs.{needs}
 use Rattle.wire.proofs.reader.read_aeth.Statement.{statement}
 use Rattle.wire.proofs.reader.read_aeth.Tie as tie
-use Rattle.wire.proofs.reader.read_aeth.Reads as reads
-use Rattle.wire.proofs.reader.read_aeth.Lts as lts
-use Rattle.wire.proofs.reader.byte.Reads as byte-reads
-use Rattle.wire.proofs.reader.three.Reads as three-reads
 
 byte-requires : tie.Need-byte-requires
 byte-requires c κs = search needs

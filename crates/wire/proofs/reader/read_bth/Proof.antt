@@ -1,17 +1,12 @@
 -- `read_bth` reads the BTH, byte by byte. Assumes nothing.
-use mathlib.Core.Path.{_≡_, sym, _∙_, ap}
-use Prim.Native.Nat.{ℕ, _/_, _%_}
+use mathlib.Core.Path.{_≡_, sym, _∙_}
+use Prim.Native.Nat.{_/_, _%_}
 use denote.Ref.{now}
 use Rattle.wire.specs.declared.reader.Bth.{Bth}
 use Rattle.wire.proofs.Parts.{bth-bytes}
 use borrow.Author.Needs.{needs}
 use Rattle.wire.proofs.reader.read_bth.Statement.{statement}
 use Rattle.wire.proofs.reader.read_bth.Tie as tie
-use Rattle.wire.proofs.reader.read_bth.Reads as reads
-use Rattle.wire.proofs.reader.read_bth.Lts as lts
-use Rattle.wire.proofs.reader.byte.Reads as byte-reads
-use Rattle.wire.proofs.reader.three.Reads as three-reads
-use Rattle.wire.proofs.reader.two.Reads as two-reads
 
 byte-requires : tie.Need-byte-requires
 byte-requires c κs = search needs

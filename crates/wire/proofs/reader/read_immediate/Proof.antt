@@ -1,14 +1,11 @@
 -- `read_immediate` reads the immediate, if it is carried. Assumes nothing.
-use mathlib.Core.Path.{_≡_, sym, _∙_, ap}
+use mathlib.Core.Path.{sym, _∙_, ap}
 use denote.Ref.{now}
 use Rattle.wire.specs.Inner.Seen.{immediateIn}
 use Rattle.wire.proofs.Parts.{immediate-bytes, immediate-none}
 use borrow.Author.Needs.{needs}
 use Rattle.wire.proofs.reader.read_immediate.Statement.{statement}
 use Rattle.wire.proofs.reader.read_immediate.Tie as tie
-use Rattle.wire.proofs.reader.read_immediate.Reads as reads
-use Rattle.wire.proofs.reader.read_immediate.Lts as lts
-use Rattle.wire.proofs.reader.four.Reads as four-reads
 
 four-requires : tie.Need-four-requires
 four-requires c κs = search needs

@@ -7,10 +7,6 @@ use Rattle.wire.proofs.Parts.{reth-bytes, reth-none}
 use borrow.Author.Needs.{needs}
 use Rattle.wire.proofs.reader.read_reth.Statement.{statement}
 use Rattle.wire.proofs.reader.read_reth.Tie as tie
-use Rattle.wire.proofs.reader.read_reth.Reads as reads
-use Rattle.wire.proofs.reader.read_reth.Lts as lts
-use Rattle.wire.proofs.reader.eight.Reads as eight-reads
-use Rattle.wire.proofs.reader.four.Reads as four-reads
 
 eight-requires : tie.Need-eight-requires
 eight-requires c κs = search needs

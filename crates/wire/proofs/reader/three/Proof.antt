@@ -4,10 +4,6 @@ use Rattle.wire.proofs.Seeing.{join-seen}
 use borrow.Author.Needs.{needs}
 use Rattle.wire.proofs.reader.three.Statement.{statement}
 use Rattle.wire.proofs.reader.three.Tie as tie
-use Rattle.wire.proofs.reader.three.Reads as reads
-use Rattle.wire.proofs.reader.three.Lts as lts
-use Rattle.wire.proofs.reader.byte.Reads as byte-reads
-use Rattle.wire.proofs.reader.two.Reads as two-reads
 
 two-requires : tie.Need-two-requires
 two-requires c κs = search needs

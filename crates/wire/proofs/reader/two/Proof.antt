@@ -4,9 +4,6 @@ use Rattle.wire.proofs.Seeing.{join-seen}
 use borrow.Author.Needs.{needs}
 use Rattle.wire.proofs.reader.two.Statement.{statement}
 use Rattle.wire.proofs.reader.two.Tie as tie
-use Rattle.wire.proofs.reader.two.Reads as reads
-use Rattle.wire.proofs.reader.two.Lts as lts
-use Rattle.wire.proofs.reader.byte.Reads as byte-reads
 
 byte-requires : tie.Need-byte-requires
 byte-requires c κs = search needs

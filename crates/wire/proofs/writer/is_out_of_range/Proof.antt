@@ -8,8 +8,6 @@ use Rattle.psn.specs.Psn.{psns}
 use Rattle.refusal.proofs.Cases.{or-none}
 use Rattle.wire.proofs.writer.is_out_of_range.Statement.{statement}
 use Rattle.wire.proofs.writer.is_out_of_range.Tie as tie
-use Rattle.wire.proofs.writer.is_out_of_range.Reads as reads
-use Rattle.wire.proofs.writer.is_out_of_range.Lts as lts
 
 returns : tie.Need-returns
 returns c =

@@ -7,16 +7,6 @@ use Rattle.wire.proofs.Writing.{write-range, write-opcode, write-whole,
 use borrow.Author.Needs.{needs}
 use Rattle.wire.proofs.writer.write.Statement.{statement}
 use Rattle.wire.proofs.writer.write.Tie as tie
-use Rattle.wire.proofs.writer.write.Reads as reads
-use Rattle.wire.proofs.writer.write.Lts as lts
-use Rattle.wire.proofs.opcode.Carries.of.Reads as of-reads
-use Rattle.wire.proofs.writer.Out.aeth.Reads as aeth-reads
-use Rattle.wire.proofs.writer.Out.bth.Reads as bth-reads
-use Rattle.wire.proofs.writer.Out.immediate.Reads as immediate-reads
-use Rattle.wire.proofs.writer.Out.new.Reads as new-reads
-use Rattle.wire.proofs.writer.Out.reth.Reads as reth-reads
-use Rattle.wire.proofs.writer.is_out_of_range.Reads as is-out-of-range-reads
-use Rattle.wire.proofs.writer.refused.Reads as refused-reads
 
 is-out-of-range-requires : tie.Need-is-out-of-range-requires
 is-out-of-range-requires c κs = search needs

@@ -1,10 +1,9 @@
 -- `Carries::of` meets its contract: the whole table, row by row, is what the definition says of each opcode, computed once. Assumes nothing.
-use mathlib.Core.Path.{_≡_, refl, sym, _∙_, ap}
+use mathlib.Core.Path.{_≡_, refl, _∙_, ap}
 use mathlib.Core.Logic.{⊎-elim}
 use mathlib.Core.Bool.{Bool}
-use mathlib.Core.List.{List, [], _∷_, map}
-use Prim.Native.Nat.{ℕ, zero, suc, _/_, _%_, _<_, _≤_}
-use native.Mathlib.Omega.{arith}
+use mathlib.Core.List.{List, [], _∷_}
+use Prim.Native.Nat.{ℕ, _/_, _%_, _<_, _≤_}
 use lib.Dec.{eqb}
 use lib.ListN.{getD}
 use borrow.Author.Needs.{needs}
@@ -14,8 +13,6 @@ use Rattle.wire.specs.Opcodes.{layout, headerLength, carriesOf}
 use Rattle.wire.proofs.Table.{rule}
 use Rattle.wire.proofs.opcode.Carries.of.Statement.{statement}
 use Rattle.wire.proofs.opcode.Carries.of.Tie as tie
-use Rattle.wire.proofs.opcode.Carries.of.Reads as reads
-use Rattle.wire.proofs.opcode.Carries.of.Lts as lts
 
 abbrev rows : List ℕ
 rows = 22540 ∷ 18444 ∷ 26636 ∷ 27152 ∷ 30732 ∷ 31248 ∷ 22812 ∷ 18444 ∷ 26636 ∷ 27152 ∷ 31004 ∷ 31520 ∷ 28956 ∷ 39952 ∷ 34828 ∷ 44048 ∷ 48144 ∷ 46096 ∷ []

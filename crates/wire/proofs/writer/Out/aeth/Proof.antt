@@ -1,18 +1,13 @@
 -- `Out::aeth` adds the AETH where it is carried, and else nothing. Assumes nothing.
 use borrow.Author.Needs.{needs}
-use mathlib.Core.Path.{_≡_, refl, subst, sym}
+use mathlib.Core.Path.{refl}
 use mathlib.Core.List.{[], _∷_}
 use Rattle.wire.specs.Layout as fields
-use Rattle.wire.specs.Layout.{Layout, _bits_, laid}
+use Rattle.wire.specs.Layout.{_bits_}
 use Rattle.wire.specs.Header.{put}
-use Rattle.wire.specs.Inner.Out.{Adds, spelled}
 use Rattle.wire.proofs.Adding.{adds-layout, adds-field, adds-carried, adds-not-carried}
 use Rattle.wire.proofs.writer.Out.aeth.Statement.{statement}
 use Rattle.wire.proofs.writer.Out.aeth.Tie as tie
-use Rattle.wire.proofs.writer.Out.aeth.Reads as reads
-use Rattle.wire.proofs.writer.Out.aeth.Lts as lts
-use Rattle.wire.proofs.writer.Out.byte.Reads as byte-reads
-use Rattle.wire.proofs.writer.Out.three.Reads as three-reads
 
 byte-requires : tie.Need-byte-requires
 byte-requires c κs = search needs

@@ -1,6 +1,6 @@
 -- `Out::bth` adds the BTH, group by group of whole bytes. Assumes nothing.
 use borrow.Author.Needs.{needs}
-use mathlib.Core.Path.{_≡_, refl, subst, sym}
+use mathlib.Core.Path.{_≡_, refl, subst}
 use mathlib.Core.List.{[], _∷_}
 use Prim.Native.Nat.{ℕ, _+_, _*_, _%_}
 use native.Mathlib.Omega.{arith}
@@ -14,11 +14,6 @@ use Rattle.wire.specs.declared.writer.Out.{Out}
 use Rattle.wire.proofs.Adding.{adds-layout, adds-field}
 use Rattle.wire.proofs.writer.Out.bth.Statement.{statement}
 use Rattle.wire.proofs.writer.Out.bth.Tie as tie
-use Rattle.wire.proofs.writer.Out.bth.Reads as reads
-use Rattle.wire.proofs.writer.Out.bth.Lts as lts
-use Rattle.wire.proofs.writer.Out.byte.Reads as byte-reads
-use Rattle.wire.proofs.writer.Out.three.Reads as three-reads
-use Rattle.wire.proofs.writer.Out.two.Reads as two-reads
 
 -- the layout from each place on
 abbrev flags : Layout

@@ -9,8 +9,6 @@ use Rattle.wire.specs.declared.writer.Out.{Out}
 use Rattle.wire.proofs.Bytes.{bytes-length}
 use Rattle.wire.proofs.writer.Out.byte.Statement.{statement}
 use Rattle.wire.proofs.writer.Out.byte.Tie as tie
-use Rattle.wire.proofs.writer.Out.byte.Reads as reads
-use Rattle.wire.proofs.writer.Out.byte.Lts as lts
 
 element-write-self : tie.Need-element-write-self
 element-write-self c = search needs

@@ -5,9 +5,6 @@ use Prim.Native.Nat.{_/_, _%_}
 use Rattle.wire.proofs.Adding.{adds-number}
 use Rattle.wire.proofs.writer.Out.eight.Statement.{statement}
 use Rattle.wire.proofs.writer.Out.eight.Tie as tie
-use Rattle.wire.proofs.writer.Out.eight.Reads as reads
-use Rattle.wire.proofs.writer.Out.eight.Lts as lts
-use Rattle.wire.proofs.writer.Out.four.Reads as four-reads
 
 cast-four : tie.Need-cast-four
 cast-four c = search needs

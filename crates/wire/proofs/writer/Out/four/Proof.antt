@@ -5,9 +5,6 @@ use Prim.Native.Nat.{_/_, _%_}
 use Rattle.wire.proofs.Adding.{adds-number}
 use Rattle.wire.proofs.writer.Out.four.Statement.{statement}
 use Rattle.wire.proofs.writer.Out.four.Tie as tie
-use Rattle.wire.proofs.writer.Out.four.Reads as reads
-use Rattle.wire.proofs.writer.Out.four.Lts as lts
-use Rattle.wire.proofs.writer.Out.two.Reads as two-reads
 
 cast-two : tie.Need-cast-two
 cast-two c = search needs

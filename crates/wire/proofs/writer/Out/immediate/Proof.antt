@@ -1,17 +1,10 @@
 -- `Out::immediate` adds the immediate where it is carried, and else nothing. Assumes nothing.
 use borrow.Author.Needs.{needs}
-use mathlib.Core.Path.{_≡_, refl, subst, sym}
-use mathlib.Core.List.{[], _∷_}
 use Rattle.wire.specs.Layout as fields
-use Rattle.wire.specs.Layout.{Layout, _bits_, laid}
 use Rattle.wire.specs.Header.{put}
-use Rattle.wire.specs.Inner.Out.{Adds, spelled}
 use Rattle.wire.proofs.Adding.{adds-field, adds-carried, adds-not-carried}
 use Rattle.wire.proofs.writer.Out.immediate.Statement.{statement}
 use Rattle.wire.proofs.writer.Out.immediate.Tie as tie
-use Rattle.wire.proofs.writer.Out.immediate.Reads as reads
-use Rattle.wire.proofs.writer.Out.immediate.Lts as lts
-use Rattle.wire.proofs.writer.Out.four.Reads as four-reads
 
 four-requires : tie.Need-four-requires
 four-requires c κs = search needs

@@ -3,8 +3,6 @@ use mathlib.Core.Path.{refl}
 use Rattle.wire.specs.Inner.Out.{filled}
 use Rattle.wire.proofs.writer.Out.new.Statement.{statement}
 use Rattle.wire.proofs.writer.Out.new.Tie as tie
-use Rattle.wire.proofs.writer.Out.new.Reads as reads
-use Rattle.wire.proofs.writer.Out.new.Lts as lts
 
 returns : tie.Need-returns
 unfolding filled

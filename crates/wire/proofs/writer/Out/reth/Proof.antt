@@ -1,18 +1,13 @@
 -- `Out::reth` adds the RETH where it is carried, and else nothing. Assumes nothing.
 use borrow.Author.Needs.{needs}
-use mathlib.Core.Path.{_≡_, refl, subst, sym}
+use mathlib.Core.Path.{refl}
 use mathlib.Core.List.{[], _∷_}
 use Rattle.wire.specs.Layout as fields
-use Rattle.wire.specs.Layout.{Layout, _bits_, laid}
+use Rattle.wire.specs.Layout.{_bits_}
 use Rattle.wire.specs.Header.{put}
-use Rattle.wire.specs.Inner.Out.{Adds, spelled}
 use Rattle.wire.proofs.Adding.{adds-layout, adds-field, adds-carried, adds-not-carried}
 use Rattle.wire.proofs.writer.Out.reth.Statement.{statement}
 use Rattle.wire.proofs.writer.Out.reth.Tie as tie
-use Rattle.wire.proofs.writer.Out.reth.Reads as reads
-use Rattle.wire.proofs.writer.Out.reth.Lts as lts
-use Rattle.wire.proofs.writer.Out.eight.Reads as eight-reads
-use Rattle.wire.proofs.writer.Out.four.Reads as four-reads
 
 eight-requires : tie.Need-eight-requires
 eight-requires c κs = search needs

@@ -5,10 +5,6 @@ use Prim.Native.Nat.{_/_, _%_}
 use Rattle.wire.proofs.Adding.{adds-number}
 use Rattle.wire.proofs.writer.Out.three.Statement.{statement}
 use Rattle.wire.proofs.writer.Out.three.Tie as tie
-use Rattle.wire.proofs.writer.Out.three.Reads as reads
-use Rattle.wire.proofs.writer.Out.three.Lts as lts
-use Rattle.wire.proofs.writer.Out.byte.Reads as byte-reads
-use Rattle.wire.proofs.writer.Out.two.Reads as two-reads
 
 cast-byte : tie.Need-cast-byte
 cast-byte c = search needs
