@@ -5,6 +5,7 @@ use mathlib.Core.List.{List}
 use Prim.Native.Nat.{ℕ, _-_, _≤_, _<_}
 use native.Mathlib.Omega.{arith}
 use lib.ListN.{length}
+use Rattle.wire.specs.Bytes.{AllBytes}
 use Rattle.wire.specs.Layout as fields
 use Rattle.wire.specs.Opcodes.{known, isBare, rowOf, carriesOf}
 use Rattle.wire.specs.Frame.{got, opcodeOf, lengthOf, restOf, valueIn, isBadRest, readOf}
@@ -14,14 +15,13 @@ use Rattle.wire.specs.declared.Frame.the-variants.{Read, Refused}
 use Rattle.wire.specs.declared.opcode.Carries.{Carries}
 use Rattle.wire.specs.declared.reader.Bth.{Bth}
 use Rattle.wire.proofs.Rows.{carries-known, unknown-by-length, known-by-length}
-use Rattle.wire.proofs.Seeing.{Small}
 use Rattle.wire.proofs.Reading.{opcode-is, version-is, pad-is, header-is, read-opcode, read-cut, read-version, read-rest, read-whole}
 
 not-not : (t : Bool) → not (not t) ≡ t
 not-not true = refl
 not-not false = refl
 
-module _ (s : List ℕ) (small : Small s) (h : 12 ≤ length s) (b : Bth) (eb : b ≡ bthIn s) (row : Carries) (er : row ≡ carriesOf (b .opcode)) where
+module _ (s : List ℕ) (small : AllBytes s) (h : 12 ≤ length s) (b : Bth) (eb : b ≡ bthIn s) (row : Carries) (er : row ≡ carriesOf (b .opcode)) where
   row-is : row ≡ carriesOf (opcodeOf s)
   row-is = er ∙ ap carriesOf (ap (λ (x : Bth). x .opcode) eb ∙ opcode-is s small)
 

@@ -13,7 +13,7 @@ use Rattle.psn.specs.Psn.{psns}
 use Rattle.refusal.specs.Refusals.{firstGiven}
 use Rattle.refusal.proofs.Cases.{by-test}
 use Rattle.refusal.proofs.Given.{none-given}
-use Rattle.wire.specs.Bytes.{octet, number, bytes}
+use Rattle.wire.specs.Bytes.{octet, number, bytes, AllBytes}
 use Rattle.wire.specs.Layout as fields
 use Rattle.wire.specs.Layout.{Name, size, laid, field}
 use Rattle.wire.specs.Opcodes.{known, hasReth, hasImmediate, hasAeth, joined, layout, headerLength, rowOf}
@@ -27,10 +27,10 @@ use Rattle.wire.specs.declared.Size.the-variants.{Length}
 use Rattle.wire.specs.declared.Written.{Written}
 use Rattle.wire.specs.declared.reader.Bth.{Bth}
 use Rattle.wire.specs.declared.reader.Aeth.{Aeth}
-use Rattle.wire.proofs.Bytes.{Octets, number-below, bytes-number}
+use Rattle.wire.proofs.Bytes.{number-below, bytes-number}
 use Rattle.wire.proofs.Fields.{distinct, laid-alike, laid-field}
 use Rattle.wire.proofs.Rows.{length-bytes}
-use Rattle.wire.proofs.Seeing.{Small, seen-take, seen-octets, seen-below}
+use Rattle.wire.proofs.Seeing.{seen-take, seen-bytes, seen-below}
 use Rattle.wire.proofs.Parts.{bth-bytes, aeth-bytes, aeth-none}
 use Rattle.wire.proofs.Reading.{opcode-is, header-is}
 use Rattle.wire.proofs.Writing.{write-whole}
@@ -53,7 +53,7 @@ distinct-joined false true false = refl
 distinct-joined false false true = refl
 distinct-joined false false false = refl
 
-module _ (s : List ℕ) (small : Small s) (t : Taken s) (w : AsWritten s) where
+module _ (s : List ℕ) (small : AllBytes s) (t : Taken s) (w : AsWritten s) where
   abbrev op : ℕ
   op = opcodeOf s
 
@@ -91,8 +91,8 @@ module _ (s : List ℕ) (small : Small s) (t : Taken s) (w : AsWritten s) where
   abbrev x : ℕ
   x = number (take (lengthOf s) s)
 
-  cut-octets : Octets (take (lengthOf s) s)
-  cut-octets = subst Octets (seen-take s 0 (lengthOf s) (rw zero-add (t .long))) (seen-octets s small 0 (lengthOf s))
+  cut-bytes : AllBytes (take (lengthOf s) s)
+  cut-bytes = subst AllBytes (seen-take s 0 (lengthOf s) (rw zero-add (t .long))) (seen-bytes s small 0 (lengthOf s))
 
   cut-length : length (take (lengthOf s) s) ≡ lengthOf s
   cut-length = length-take-le (lengthOf s) s (t .long)
@@ -102,7 +102,7 @@ module _ (s : List ℕ) (small : Small s) (t : Taken s) (w : AsWritten s) where
   same-number =
       laid-alike (put h) (λ n. field n (layout op) x) (layout op) (λ n e. same-value n)
       ∙ laid-field (layout op) (distinct-joined (hasReth op) (hasImmediate op) (hasAeth op)) x
-      ∙ mod-eq-of-lt (subst (λ (j : ℕ). x < 2 ^ j) (ap (λ (k : ℕ). octet * k) cut-length ∙ sym (length-bytes op)) (number-below (take (lengthOf s) s) cut-octets))
+      ∙ mod-eq-of-lt (subst (λ (j : ℕ). x < 2 ^ j) (ap (λ (k : ℕ). octet * k) cut-length ∙ sym (length-bytes op)) (number-below (take (lengthOf s) s) cut-bytes))
 
   same-bytes : written h ≡ take (lengthOf s) s
   unfolding written
@@ -110,7 +110,7 @@ module _ (s : List ℕ) (small : Small s) (t : Taken s) (w : AsWritten s) where
       ap (λ (o : ℕ). bytes (headerLength o) (laid (put h) (layout o))) same-opcode
       ∙ ap (bytes (lengthOf s)) same-number
       ∙ ap (λ (k : ℕ). bytes k x) (sym cut-length)
-      ∙ bytes-number (take (lengthOf s) s) cut-octets
+      ∙ bytes-number (take (lengthOf s) s) cut-bytes
 
   -- and no field is out of its range
   aeth-msn : (at : ℕ) (carried : Bool) → aethIn s at carried .msn < 2 ^ 24

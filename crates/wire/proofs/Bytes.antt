@@ -7,12 +7,7 @@ use native.Mathlib.Nat.{zero-add, zero-mul, mul-add, add-mul, mul-assoc, add-ass
 use lib.Arith.{digits-lt}
 use lib.Pow.{pow-add, high, low, mod-pow-add, field, mod-mod-pow, shr-shr}
 use lib.ListN.{length, length-append}
-use Rattle.wire.specs.Bytes.{octet, number, bytes}
-
--- each is a byte
-abbrev pub Octets : List ℕ → Type 0
-Octets [] = Unit {0}
-Octets (b ∷ bs) = (b < 256) × Octets bs
+use Rattle.wire.specs.Bytes.{octet, AllBytes, number, bytes}
 
 -- ---- powers
 
@@ -30,10 +25,10 @@ regroup b p q n m = rw (add-mul, mul-assoc, add-assoc)
 
 -- ---- the number that bytes spell
 
-pub number-below : (bs : List ℕ) → Octets bs → number bs < 2 ^ (octet * length bs)
+pub number-below : (bs : List ℕ) → AllBytes bs → number bs < 2 ^ (octet * length bs)
 unfolding number
 number-below [] o = omega arith
-number-below (b ∷ bs) o = rw (pow-more (length bs)) (digits-lt (o .0) (number-below bs (o .1)))
+number-below (b ∷ bs) o = rw (pow-more (length bs)) (digits-lt (o 0) (number-below bs (λ i. o (suc i))))
 
 pub number-append : (bs cs : List ℕ) → number (bs ++ cs) ≡ number bs * 2 ^ (octet * length cs) + number cs
 unfolding number
@@ -91,11 +86,11 @@ number-bytes (suc k) n =
     ap₂ (λ (l m : ℕ). n / 2 ^ (octet * k) % 256 * 2 ^ (octet * l) + m) (bytes-length k n) (number-bytes k n)
     ∙ sym (ap (λ (j : ℕ). n % 2 ^ j) (one-more k) ∙ mod-pow-add n octet (octet * k))
 
-pub bytes-number : (bs : List ℕ) → Octets bs → bytes (length bs) (number bs) ≡ bs
+pub bytes-number : (bs : List ℕ) → AllBytes bs → bytes (length bs) (number bs) ≡ bs
 unfolding number bytes
 bytes-number [] o = refl
 bytes-number (b ∷ bs) o =
-    let low = number-below bs (o .1) in
+    let low = number-below bs (λ i. o (suc i)) in
     ap₂ (λ (x : ℕ) (xs : List ℕ). x ∷ xs)
-    (ap (λ (x : ℕ). x % 256) (high b (octet * length bs) low) ∙ mod-eq-of-lt (o .0))
-    (bytes-low (length bs) b (number bs) low ∙ bytes-number bs (o .1))
+    (ap (λ (x : ℕ). x % 256) (high b (octet * length bs) low) ∙ mod-eq-of-lt (o 0))
+    (bytes-low (length bs) b (number bs) low ∙ bytes-number bs (λ i. o (suc i)))

@@ -13,7 +13,7 @@ use borrow.Author.Tests.{ltb-false, leb-true, leb-false}
 use Rattle.psn.specs.Psn.{psns}
 use Rattle.refusal.specs.Choice.{if_then_else_}
 use Rattle.refusal.proofs.Cases.{by-test, or-left, or-right}
-use Rattle.wire.specs.Bytes.{octet, number, bytes}
+use Rattle.wire.specs.Bytes.{octet, number, bytes, AllBytes}
 use Rattle.wire.specs.Layout as fields
 use Rattle.wire.specs.Layout.{Name, Layout, bth, reth, immediateData, aeth, size, has, laid, field}
 use Rattle.wire.specs.Opcodes.{known, hasReth, hasImmediate, hasAeth, isBare, layout, headerLength}
@@ -28,7 +28,7 @@ use Rattle.wire.specs.declared.Frame.the-variants.{Read}
 use Rattle.wire.proofs.Bytes.{number-bytes}
 use Rattle.wire.proofs.Fields.{Fitting, laid-below, field-laid}
 use Rattle.wire.proofs.Rows.{length-bytes, length-least, size-joined}
-use Rattle.wire.proofs.Seeing.{Small, seen-take}
+use Rattle.wire.proofs.Seeing.{seen-take}
 use Rattle.wire.proofs.Reading.{in-bth, read-whole, opcode-is}
 use Rattle.wire.proofs.Writing.{written-length, write-range, write-opcode, write-whole}
 
@@ -83,7 +83,7 @@ fitting h held r k =
 
 -- ---- what stands in the written bytes
 
-bytes-small : (k n : ℕ) → Small (bytes k n)
+bytes-small : (k n : ℕ) → AllBytes (bytes k n)
 unfolding bytes
 bytes-small zero n i = omega arith
 bytes-small (suc k) n zero = mod-lt (n / 2 ^ (octet * k)) (pow-pos octet)
@@ -106,7 +106,7 @@ module _ (h : Header) (held : Held h) (r : InRange h) (k : known (h .opcode) ≡
   opcode-written =
       let op = h .opcode in
       let s = written h in
-      let small : Small s = bytes-small (headerLength op) (laid (put h) (layout op)) in
+      let small : AllBytes s = bytes-small (headerLength op) (laid (put h) (layout op)) in
       let places = 12 + count (hasReth op) 16 + count (hasImmediate op) 4 + count (hasAeth op) 4 in
       let as-long : length s ≡ places = omega (arith, written-length h, size-joined (hasReth op) (hasImmediate op) (hasAeth op)) in
       let all : seen s 0 places ≡ s = seen-take s 0 places (omega arith) ∙ take-all places s (omega arith) in

@@ -6,13 +6,13 @@ use Prim.Native.Nat.{ℕ, _+_, _/_, _%_}
 use native.Mathlib.Omega.{arith}
 use native.Mathlib.Nat.{add-zero}
 use lib.ListN.{take, drop}
-use Rattle.wire.specs.Bytes.{number}
+use Rattle.wire.specs.Bytes.{number, AllBytes}
 use Rattle.wire.specs.Layout as fields
 use Rattle.wire.specs.Layout.{Layout, bth, reth, aeth, field}
 use Rattle.wire.specs.Inner.Seen.{seen, bthIn, rethIn, immediateIn, aethIn}
-use Rattle.wire.proofs.Seeing.{Small, found-group, found-place}
+use Rattle.wire.proofs.Seeing.{found-group, found-place}
 
-module _ (s : List ℕ) (small : Small s) where
+module _ (s : List ℕ) (small : AllBytes s) where
   -- the fields of the BTH's second byte
   abbrev flagBits : Layout
   flagBits = take 4 (drop 1 bth)

@@ -10,7 +10,7 @@ use lib.ListN.{length}
 use borrow.Author.Tests.{ltb-false, lt-ltb, le-ltb, eq-eqb, ne-eqb}
 use Rattle.refusal.specs.Choice.{if_then_else_}
 use Rattle.refusal.proofs.Cases.{by-test, or-left, or-right}
-use Rattle.wire.specs.Bytes.{number}
+use Rattle.wire.specs.Bytes.{number, AllBytes}
 use Rattle.wire.specs.Layout as fields
 use Rattle.wire.specs.Layout.{Name, Layout, bth, reth, immediateData, aeth, same, has, field}
 use Rattle.wire.specs.Opcodes.{known, hasReth, hasImmediate, hasAeth, isBare, joined, layout, headerLength, rowOf}
@@ -18,7 +18,7 @@ use Rattle.wire.specs.Frame.{got, opcodeOf, lengthOf, restOf, valueIn, i
 use Rattle.wire.specs.Inner.Seen.{seen, found, count, bthIn, rethIn, immediateIn, aethIn, headerIn}
 use Rattle.wire.specs.declared.Frame.the-variants.{Read, Refused}
 use Rattle.wire.proofs.Rows.{size-carried, size-joined}
-use Rattle.wire.proofs.Seeing.{Small, seen-take, one-byte, found-first, found-second}
+use Rattle.wire.proofs.Seeing.{seen-take, one-byte, found-first, found-second}
 use Rattle.wire.proofs.Parts.{bth-bytes}
 
 -- ---- names that a layout lacks
@@ -34,7 +34,7 @@ has-append n (f ∷ fs) gs p q =
 
 -- ---- each header's fields, in the bytes of that header
 
-module _ (s : List ℕ) (small : Small s) (r i a : Bool) (n : Name) where
+module _ (s : List ℕ) (small : AllBytes s) (r i a : Bool) (n : Name) where
   abbrev R : Layout
   R = if r then reth else []
 
@@ -76,10 +76,10 @@ module _ (s : List ℕ) (small : Small s) (r i a : Bool) (n : Name) where
 
 -- ---- a frame as long as its headers
 
-pub opcode-is : (s : List ℕ) → Small s → bthIn s .opcode ≡ opcodeOf s
+pub opcode-is : (s : List ℕ) → AllBytes s → bthIn s .opcode ≡ opcodeOf s
 opcode-is s small = ap (λ b. b .opcode) (bth-bytes s small) ∙ one-byte s 0
 
-module _ (s : List ℕ) (small : Small s) (long : lengthOf s ≤ length s) where
+module _ (s : List ℕ) (small : AllBytes s) (long : lengthOf s ≤ length s) where
   abbrev op : ℕ
   op = opcodeOf s
 

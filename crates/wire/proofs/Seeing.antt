@@ -8,25 +8,22 @@ use native.Mathlib.Nat.{zero-add, add-zero, suc-add, add-suc, mod-eq-of-lt}
 use lib.ListN.{length, getD, take, drop}
 use lib.Seq.{drop-cons}
 use Rattle.refusal.proofs.Cases.{by-test}
-use Rattle.wire.specs.Bytes.{octet, number}
+use Rattle.wire.specs.Bytes.{octet, number, AllBytes}
 use Rattle.wire.specs.Layout.{Name, Layout, _bits_, size, same, has, field}
 use Rattle.wire.specs.Inner.Seen.{seen, found}
-use Rattle.wire.proofs.Bytes.{Octets, number-below, number-append}
+use Rattle.wire.proofs.Bytes.{number-below, number-append}
 use Rattle.wire.proofs.Fields.{same-self, field-low, field-first, field-second}
 
 -- ---- runs of bytes
-
--- every element is a byte
-abbrev pub Small : List ℕ → Type 0
-Small s = (i : ℕ) → getD s i 0 < 256
 
 pub seen-length : (s : List ℕ) (at k : ℕ) → length (seen s at k) ≡ k
 seen-length s at zero = refl
 seen-length s at (suc k) = ap suc (seen-length s (suc at) k)
 
-pub seen-octets : (s : List ℕ) → Small s → (at k : ℕ) → Octets (seen s at k)
-seen-octets s h at zero = tt
-seen-octets s h at (suc k) = (h at, seen-octets s h (suc at) k)
+pub seen-bytes : (s : List ℕ) → AllBytes s → (at k : ℕ) → AllBytes (seen s at k)
+seen-bytes s h at zero i = omega arith
+seen-bytes s h at (suc k) zero = h at
+seen-bytes s h at (suc k) (suc i) = seen-bytes s h (suc at) k i
 
 pub seen-append : (s : List ℕ) (at m k : ℕ) → seen s at (m + k) ≡ seen s at m ++ seen s (at + m) k
 seen-append s at zero k = ap₂ (seen s) (sym (add-zero at)) (zero-add k)
@@ -53,8 +50,8 @@ pub join-seen : (s : List ℕ) (at m k x y : ℕ) → x ≡ number (seen s at m)
     → x * 2 ^ (octet * k) + y ≡ number (seen s at (m + k))
 join-seen s at m k x y p q = ap₂ (λ (a b : ℕ). a * 2 ^ (octet * k) + b) p q ∙ sym (number-seen s at m k)
 
-pub seen-below : (s : List ℕ) → Small s → (at k : ℕ) → number (seen s at k) < 2 ^ (octet * k)
-seen-below s h at k = subst (λ (l : ℕ). number (seen s at k) < 2 ^ (octet * l)) (seen-length s at k) (number-below (seen s at k) (seen-octets s h at k))
+pub seen-below : (s : List ℕ) → AllBytes s → (at k : ℕ) → number (seen s at k) < 2 ^ (octet * k)
+seen-below s h at k = subst (λ (l : ℕ). number (seen s at k) < 2 ^ (octet * l)) (seen-length s at k) (number-below (seen s at k) (seen-bytes s h at k))
 
 pub one-byte : (s : List ℕ) (at : ℕ) → number (seen s at 1) ≡ getD s at 0
 unfolding number
@@ -68,7 +65,7 @@ field-absent n [] x e = refl
 field-absent n (f ∷ fs) x e =
     by-test (same n (f .name)) (λ t. absurd (true≢false (rw t at e))) (λ t. rw t (field-absent n fs x (rw t at e)))
 
-module _ (s : List ℕ) (small : Small s) (at m k : ℕ) (n : Name) (fs gs : Layout) (p : size gs ≡ octet * k) where
+module _ (s : List ℕ) (small : AllBytes s) (at m k : ℕ) (n : Name) (fs gs : Layout) (p : size gs ≡ octet * k) where
   abbrev high : ℕ
   high = number (seen s at m)
 
@@ -96,7 +93,7 @@ module _ (s : List ℕ) (small : Small s) (at m k : ℕ) (n : Name) (fs gs : Lay
   found-second e = field-second n fs gs whole e ∙ ap (field n gs) parts ∙ field-low n gs high low low-below
 
 -- one field of whole bytes
-found-one : (s : List ℕ) → Small s → (at k : ℕ) (n : Name) → found s at k (n bits (octet * k) ∷ []) n ≡ number (seen s at k)
+found-one : (s : List ℕ) → AllBytes s → (at k : ℕ) (n : Name) → found s at k (n bits (octet * k) ∷ []) n ≡ number (seen s at k)
 unfolding field
 found-one s h at k n =
     let x = number (seen s at k) in
@@ -104,7 +101,7 @@ found-one s h at k n =
     rw (same-self n) (ap (λ (y : ℕ). y % 2 ^ (octet * k)) all ∙ mod-eq-of-lt (seen-below s h at k))
 
 -- a group of whole bytes in the midst of a header: i bytes before it, k of its own, j after it
-module _ (s : List ℕ) (small : Small s) (at i k j : ℕ) (n : Name) (fs : Layout) where
+module _ (s : List ℕ) (small : AllBytes s) (at i k j : ℕ) (n : Name) (fs : Layout) where
   pub found-group : (g gs : Layout) → size g ≡ octet * k → size gs ≡ octet * j → has n fs ≡ false → has n gs ≡ false
       → found s at (i + k + j) (fs ++ g ++ gs) n ≡ found s (at + i) k g n
   found-group g gs p q e f =

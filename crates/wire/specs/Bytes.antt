@@ -1,11 +1,15 @@
 -- "big-endian": bytes and the number that they spell, the highest first. Assumes nothing.
-use Prim.Native.Nat.{ℕ, zero, suc, _+_, _*_, _/_, _%_, _^_}
+use Prim.Native.Nat.{ℕ, zero, suc, _+_, _*_, _/_, _%_, _^_, _<_}
 use mathlib.Core.List.{List, [], _∷_}
-use lib.ListN.{length}
+use lib.ListN.{length, getD}
 
 -- a byte's bits
 abbrev pub octet : ℕ
 octet = 8
+
+-- every element is a byte
+abbrev pub AllBytes : List ℕ → Type 0
+AllBytes s = (i : ℕ) → getD s i 0 < 2 ^ octet
 
 -- the number that a list of bytes spells
 unfoldable pub number : List ℕ → ℕ

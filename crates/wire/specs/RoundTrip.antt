@@ -7,6 +7,7 @@ use mathlib.Core.List.{List, _++_}
 use Prim.Native.Nat.{ℕ, _-_, _^_, _<_}
 use lib.ListN.{length, take, replicate, getD}
 use Rattle.refusal.specs.Choice.{if_then_else_}
+use Rattle.wire.specs.Bytes.{AllBytes}
 use Rattle.wire.specs.Layout as fields
 use Rattle.wire.specs.Layout.{has}
 use Rattle.wire.specs.Opcodes.{isBare, layout}
@@ -35,10 +36,6 @@ Forth =
     (h : Header) (n : ℕ) (rest : List ℕ) → Held h → writeOf h .size ≡ Length n → isBadRest (length rest) (h .pad) (isBare (h .opcode)) ≡ false
     → readOf (take n (writeOf h .bytes) ++ rest) ≡ Read (kept h) n (length rest - h .pad)
 
--- every element is a byte
-abbrev pub Bytes : List ℕ → Type 0
-Bytes s = (i : ℕ) → getD s i 0 < 2 ^ 8
-
 -- "the reserved bits were zero and those three as written"
 pub record AsWritten (s : List ℕ) : Type 0 where
   pub solicitedEvent : valueIn s fields.solicitedEvent ≡ 1
@@ -50,5 +47,5 @@ pub record AsWritten (s : List ℕ) : Type 0 where
 -- "writing what was read gives the same bytes"
 abbrev pub Back : Type 0
 Back =
-    (s : List ℕ) (h : Header) (n payload : ℕ) → Bytes s → readOf s ≡ Read h n payload → AsWritten s
+    (s : List ℕ) (h : Header) (n payload : ℕ) → AllBytes s → readOf s ≡ Read h n payload → AsWritten s
     → writeOf h ≡ record { size = Length n; bytes = take n s ++ replicate (headerBytes - n) 0 }

@@ -4,7 +4,7 @@ use mathlib.Core.Bool.{not}
 use Prim.Native.Nat.{_-_, _≤_}
 use denote.Ref.{now}
 use lib.ListN.{length}
-use Rattle.wire.proofs.Seeing.{Small}
+use Rattle.wire.specs.Bytes.{AllBytes}
 use Rattle.wire.proofs.Reading.{read-short, pad-fits}
 use Rattle.wire.proofs.Answered.{unknown, cut, version, rest, whole}
 use borrow.Author.Needs.{needs}
@@ -29,7 +29,7 @@ returns-2 c =
     let c1 = c2 .before in
     let c0 = c1 .before .before in
     let s = now (c0 .before .args .frame) in
-    let small : Small s = λ i. c0 .shared-slice-known .given i .fits in
+    let small : AllBytes s = λ i. c0 .shared-slice-known .given i .fits in
     let long : 12 ≤ length s = c1 .before .if1 .left in
     let b = c1 .read-bth .result in
     let row = c2 .of .result in
@@ -41,7 +41,7 @@ returns-3 c =
     let c1 = c2 .before in
     let c0 = c1 .before .before in
     let s = now (c0 .before .args .frame) in
-    let small : Small s = λ i. c0 .shared-slice-known .given i .fits in
+    let small : AllBytes s = λ i. c0 .shared-slice-known .given i .fits in
     let long : 12 ≤ length s = c1 .before .if1 .left in
     let b = c1 .read-bth .result in
     let row = c2 .of .result in
@@ -53,7 +53,7 @@ returns-4 c =
     let c1 = c2 .before in
     let c0 = c1 .before .before in
     let s = now (c0 .before .args .frame) in
-    let small : Small s = λ i. c0 .shared-slice-known .given i .fits in
+    let small : AllBytes s = λ i. c0 .shared-slice-known .given i .fits in
     let long : 12 ≤ length s = c1 .before .if1 .left in
     let b = c1 .read-bth .result in
     let row = c2 .of .result in
@@ -73,7 +73,7 @@ returns-5 c =
     let c1 = c2 .before in
     let c0 = c1 .before .before in
     let s = now (c0 .before .args .frame) in
-    let small : Small s = λ i. c0 .shared-slice-known .given i .fits in
+    let small : AllBytes s = λ i. c0 .shared-slice-known .given i .fits in
     let long : 12 ≤ length s = c1 .before .if1 .left in
     let b = c1 .read-bth .result in
     let row = c2 .of .result in
@@ -102,7 +102,7 @@ returns-6 c =
     let c1 = c2 .before in
     let c0 = c1 .before .before in
     let s = now (c0 .before .args .frame) in
-    let small : Small s = λ i. c0 .shared-slice-known .given i .fits in
+    let small : AllBytes s = λ i. c0 .shared-slice-known .given i .fits in
     let long : 12 ≤ length s = c1 .before .if1 .left in
     let b = c1 .read-bth .result in
     let row = c2 .of .result in
