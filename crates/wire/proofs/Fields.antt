@@ -2,7 +2,7 @@
 -- is read and written part by part. Assumes nothing.
 use mathlib.Core.Path.{_≡_, refl, sym, _∙_, ap, ap₂}
 use mathlib.Core.Bool.{Bool, true, false, not, _&&_, true≢false, false≢true}
-use mathlib.Core.List.{List, [], _∷_, _++_}
+use mathlib.Core.List.{[], _∷_, _++_}
 use Prim.Native.Nat.{ℕ, _+_, _*_, _/_, _%_, _^_, _<_}
 use native.Mathlib.Omega.{arith}
 use native.Mathlib.Nat.{zero-add, zero-mul, mod-lt, mod-mod, mod-eq-of-lt}
@@ -10,10 +10,8 @@ use lib.Arith.{digits-lt}
 use lib.Pow.{pow-pos, pow-add, high, low, mod-pow-add, field as pow-field, mod-mod-pow, shr-shr}
 use Rattle.refusal.specs.Choice.{if_then_else_}
 use Rattle.refusal.proofs.Cases.{by-test, if-case, not-both, and-left, and-right}
-use lib.ListN.{getD}
-use borrow.Author.Tests.{eqb-true, eq-eqb, not-true}
-use Rattle.wire.specs.Layout as fields
-use Rattle.wire.specs.Layout.{Name, Layout, size, code, same, has, laid, field}
+use borrow.Author.Tests.{not-true}
+use Rattle.wire.specs.Layout.{Name, Layout, size, Name-discrete, decided, same, has, laid, field}
 use Rattle.wire.proofs.Bytes.{regroup}
 
 pub size-append : (fs gs : Layout) → size (fs ++ gs) ≡ size fs + size gs
@@ -25,38 +23,19 @@ pow-size fs gs = ap (λ (n : ℕ). 2 ^ n) (size-append fs gs) ∙ pow-add 2 (siz
 
 -- ---- names
 
-names : List Name
-names =
-    fields.opcode ∷ fields.solicitedEvent ∷ fields.migration ∷ fields.pad ∷ fields.version ∷ fields.pKey
-    ∷ fields.reservedByte ∷ fields.farPair ∷ fields.ackReq ∷ fields.reservedBits ∷ fields.psn
-    ∷ fields.address ∷ fields.key ∷ fields.dmaLength ∷ fields.immediate ∷ fields.syndrome ∷ fields.msn ∷ []
-
-named : (n : Name) → getD names (code n) fields.opcode ≡ n
-unfolding names
-named fields.opcode = refl
-named fields.solicitedEvent = refl
-named fields.migration = refl
-named fields.pad = refl
-named fields.version = refl
-named fields.pKey = refl
-named fields.reservedByte = refl
-named fields.farPair = refl
-named fields.ackReq = refl
-named fields.reservedBits = refl
-named fields.psn = refl
-named fields.address = refl
-named fields.key = refl
-named fields.dmaLength = refl
-named fields.immediate = refl
-named fields.syndrome = refl
-named fields.msn = refl
-
 pub same-name : (m n : Name) → same m n ≡ true → m ≡ n
-same-name m n e =
-    sym (named m) ∙ ap (λ (k : ℕ). getD names k fields.opcode) (eqb-true (code m) (code n) e) ∙ named n
+same-name m n e = go (Name-discrete m n) e
+  where
+    go : (d : Dec (m ≡ n)) → decided d ≡ true → m ≡ n
+    go (yes p) t = p
+    go (no p) t = absurd (false≢true t)
 
 pub same-self : (n : Name) → same n n ≡ true
-same-self n = eq-eqb (code n) (code n) refl
+same-self n = go (Name-discrete n n)
+  where
+    go : (d : Dec (n ≡ n)) → decided d ≡ true
+    go (yes p) = refl
+    go (no p) = absurd (p refl)
 
 -- ---- laying
 

@@ -1,9 +1,9 @@
 -- "Headers, big-endian": each header as the list of its fields with their widths in bits, in the order of the wire.
 -- Assumes nothing.
+use mathlib.Core.Path.{_≡_}
 use mathlib.Core.Bool.{Bool, true, false}
 use mathlib.Core.List.{List, [], _∷_}
 use Prim.Native.Nat.{ℕ, _+_, _*_, _/_, _%_, _^_}
-use lib.Dec.{eqb}
 use Rattle.refusal.specs.Choice.{if_then_else_}
 
 pub data Name : Type 0 where
@@ -11,6 +11,7 @@ pub data Name : Type 0 where
   address key dmaLength : Name
   immediate : Name
   syndrome msn : Name
+  deriving Discrete as Name-discrete
 
 pub record Field : Type 0 where
   pub name : Name
@@ -50,28 +51,13 @@ abbrev pub size : Layout → ℕ
 size [] = 0
 size (f ∷ fs) = f .width + size fs
 
--- names are told apart by a number
-abbrev pub code : Name → ℕ
-code opcode = 0
-code solicitedEvent = 1
-code migration = 2
-code pad = 3
-code version = 4
-code pKey = 5
-code reservedByte = 6
-code farPair = 7
-code ackReq = 8
-code reservedBits = 9
-code psn = 10
-code address = 11
-code key = 12
-code dmaLength = 13
-code immediate = 14
-code syndrome = 15
-code msn = 16
+abbrev pub decided : {m n : Name} → Dec (m ≡ n) → Bool
+decided (yes e) = true
+decided (no e) = false
 
+-- are the two names one?
 abbrev pub same : Name → Name → Bool
-same m n = eqb (code m) (code n)
+same m n = decided (Name-discrete m n)
 
 abbrev pub has : Name → Layout → Bool
 has n [] = false

@@ -5,7 +5,7 @@ use mathlib.Core.Path.{_≡_}
 use mathlib.Core.Bool.{false}
 use mathlib.Core.List.{List, _++_}
 use Prim.Native.Nat.{ℕ, _-_, _^_, _<_}
-use lib.ListN.{length, take, replicate, getD}
+use lib.ListN.{length, take, replicate}
 use Rattle.refusal.specs.Choice.{if_then_else_}
 use Rattle.wire.specs.Bytes.{AllBytes}
 use Rattle.wire.specs.Layout as fields
