@@ -3,7 +3,7 @@
 ghost use mathlib.Core.Path.{_≡_};
 ghost use mathlib.Core.Bool.{true};
 ghost use lib.ListN.{take};
-ghost use Rattle.replay.specs.Reading.{nextNumber, readByte, readAll, reading, Sound, settled, Ended};
+ghost use Rattle.replay.specs.Reading.{nextNumber, readByte, readAll, reading, Sound, settled};
 use crate::answer::answer;
 use libc::STDOUT_FILENO;
 
@@ -81,7 +81,8 @@ fn settle(out: &[u8], place: Place) -> Place
 
 // The line is at its end.
 fn end_line(line: &[u8], out: &mut [u8], place: Place) -> Place
-    ensures { λ r. ⌜ Ended (now (line .entry)) (now (out .entry)) place (now (out .exit)) r ⌝ }
+    ensures { λ r. ⌜ r .kept ≡ 0 ⌝ }
+    ensures { λ r. ⌜ reading (now (line .entry)) (now (out .exit)) r ≡ readByte (reading (now (line .entry)) (now (out .entry)) place) 10 ⌝ }
 {
     let at = answer(front(line, place.kept), place.number, out, place.at);
     settle(&out[..], place.next_line(at))
@@ -90,7 +91,7 @@ fn end_line(line: &[u8], out: &mut [u8], place: Place) -> Place
 fn take(b: u8, line: &mut [u8], out: &mut [u8], place: Place) -> Place
     requires { ⌜ Sound (now line) place ⌝ }
     ensures { λ r. ⌜ Sound (now (line .exit)) r ⌝ }
-    ensures { λ r. ⌜ reading (now (line .exit)) r ≡ readByte (reading (now (line .entry)) place) b ⌝ }
+    ensures { λ r. ⌜ reading (now (line .exit)) (now (out .exit)) r ≡ readByte (reading (now (line .entry)) (now (out .entry)) place) b ⌝ }
 {
     if b == b'\n' {
         return end_line(&line[..], out, place);
@@ -108,7 +109,7 @@ fn take(b: u8, line: &mut [u8], out: &mut [u8], place: Place) -> Place
 pub(crate) fn feed(input: &[u8], line: &mut [u8], out: &mut [u8], place: Place) -> Place
     requires { ⌜ Sound (now line) place ⌝ }
     ensures { λ r. ⌜ Sound (now (line .exit)) r ⌝ }
-    ensures { λ r. ⌜ (r .well ≡ true → reading (now (line .exit)) r ≡ readAll (reading (now (line .entry)) place) (now (input .entry))) ⌝ }
+    ensures { λ r. ⌜ (r .well ≡ true → reading (now (line .exit)) (now (out .exit)) r ≡ readAll (reading (now (line .entry)) (now (out .entry)) place) (now (input .entry))) ⌝ }
 {
     let mut next = place;
     let mut i = 0;

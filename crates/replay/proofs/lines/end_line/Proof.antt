@@ -25,7 +25,7 @@ returns c =
     let at-answer = c .before .before .before .before .before in
     let at-front = at-answer .before .before in
     let start = at-front .before .before .before in
-    answered (now (start .args .line)) (now (start .args .out)) (start .args .place) (c .before .next-line .result) (at-front .front .ensures) (at-answer .answer .ensures)
+    answered (now (start .args .line)) (now (start .args .out)) (start .args .place) (c .before .next-line .result) (c .settle .result) (at-front .front .ensures) (at-answer .answer .ensures)
     (c .before .next-line .ensures) (c .settle .ensures)
 
 pub end-line-spec : {M : Type 1} → statement M

@@ -9,13 +9,13 @@ use Rattle.replay.proofs.lines.feed.Statement.{statement}
 use Rattle.replay.proofs.lines.feed.Tie as tie
 
 abbrev Inv-loop : tie.InvT-loop
-Inv-loop input line₀ out₀ next₀ i₀ line out next i = Feeding input line₀ next₀ line next i × (length line ≡ length line₀) × (length out ≡ length out₀)
+Inv-loop input line₀ out₀ next₀ i₀ line out next i = Feeding input line₀ out₀ next₀ line out next i × (length line ≡ length line₀) × (length out ≡ length out₀)
 
 abbrev μ-loop : tie.MeasureT-loop
 μ-loop input line₀ out₀ next₀ i₀ line out next i = length input - i
 
 loop-holds : tie.Need-loop-holds Inv-loop μ-loop
-loop-holds c = (feeding-start _ _ _ (c .before .before .before .pre), refl, refl)
+loop-holds c = (feeding-start _ _ _ _ (c .before .before .before .pre), refl, refl)
 
 shared-slice-read-take : tie.Need-shared-slice-read-take Inv-loop μ-loop
 shared-slice-read-take c = omega arith

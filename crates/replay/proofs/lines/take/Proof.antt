@@ -1,6 +1,7 @@
 -- `lines::take` meets its contract: the line's end, a byte that is kept, or one that has no room. Assumes nothing.
 use mathlib.Core.Path.{refl}
-use Rattle.replay.proofs.Keeping.{line-ended, byte-kept, byte-left, ended-room}
+use denote.Ref.{now}
+use Rattle.replay.proofs.Keeping.{line-ended, byte-kept, byte-left}
 use borrow.Author.Needs.{needs}
 use Rattle.replay.proofs.lines.take.Statement.{statement}
 use Rattle.replay.proofs.lines.take.Tie as tie
@@ -20,7 +21,7 @@ returns c =
     let at-if1 = at-end-line .before .before .before in
     let start = at-if1 .before .before .before in
     let ended = at-end-line .end-line .ensures in
-    line-ended (start .pre) (at-if1 .if1 .taken) (ended .kept, ended .number, ended-room ended)
+    line-ended (now (start .args .out)) (start .pre) (at-if1 .if1 .taken) (ended .0) (ended .1)
 
 slice-write-line : tie.Need-slice-write-line
 slice-write-line c = search needs
