@@ -1,17 +1,18 @@
 -- How the bytes of a line are kept, and its number. Assumes nothing.
-use mathlib.Core.Path.{_≡_, refl, sym, ap, ap₂, subst, _∙_}
+use mathlib.Core.Path.{_≡_, refl, sym, ap, subst, _∙_}
+use mathlib.Core.Bool.{true}
 use mathlib.Core.List.{List, [], _∷_, _++_, append-nil, append-assoc}
 use Prim.Native.Nat.{ℕ, zero, suc, _+_, _≤_, _<_, suc-le-suc}
 use native.Mathlib.Omega.{arith}
 use native.Mathlib.Numerals.{add-one}
 use lib.ListN.{length, getD, take, drop, set, length-set, length-append, drop-of-length-le}
 use lib.Seq.{take-suc-set, take-all, take-at, length-take-le}
-use borrow.Author.Tests.{eq-eqb, ne-eqb}
+use borrow.Author.Tests.{ne-eqb}
 use Rattle.text.specs.Out.{Out, out, putAll, Puts}
 use Rattle.text.proofs.Parts.{drop-at}
 use Rattle.replay.specs.declared.lines.Place.{Place}
 use Rattle.replay.specs.Answer.{answerOf}
-use Rattle.replay.specs.Reading.{Reading, most, half, nextNumber, settled, behind, readByte, readAll, reading, Sound}
+use Rattle.replay.specs.Reading.{Reading, most, half, nextNumber, settled, behind, readByte, readAll, HasRead, reading, Sound}
 use Rattle.replay.proofs.Answering.{kept-answers}
 use Rattle.replay.proofs.Room.{settled-most}
 
@@ -89,6 +90,15 @@ module _ {input l₀ o₀ : List ℕ} {p₀ : Place} {l o : List ℕ} {p : Place
   pub feeding-end : Feeding input l₀ o₀ p₀ l o p i → length input ≤ i → reading l o p ≡ readAll (reading l₀ o₀ p₀) input
   unfolding readAll
   feeding-end f h = sym (f .left ∙ ap (readAll (reading l o p)) (drop-of-length-le input h))
+
+-- where nothing came, nothing was read
+pub nothing-read : (l o : List ℕ) (p q : Place) → Sound l p → (q .kept ≡ p .kept) × (q .number ≡ p .number) × (q .at ≡ p .at)
+    → Sound l q × (q .well ≡ true → HasRead (reading l o p) (reading l o q))
+unfolding readAll
+nothing-read l o p q s k = (
+  record { size = s .size; within = omega (arith, k .0, s .within); room = omega (arith, k .2, s .room) },
+  λ w. record { input = []; all = λ i. state (k .1 i) (take (k .0 i) l) (out o (k .2 i)) },
+)
 
 -- ---- a line is what stands up to a newline
 

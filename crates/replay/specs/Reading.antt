@@ -45,6 +45,11 @@ unfoldable pub readAll : Reading → List ℕ → Reading
 readAll s [] = s
 readAll s (b ∷ bs) = readAll (readByte s b) bs
 
+-- from one to the other by some bytes: nothing says which ones a read brings
+pub record HasRead (s t : Reading) : Type 0 where
+  pub input : List ℕ
+  pub all : t ≡ readAll s input
+
 -- as the program has it: the line and the answers in two buffers, with counts
 abbrev pub reading : List ℕ → List ℕ → Place → Reading
 reading l o p = record { number = p .number; kept = take (p .kept) l; answers = out o (p .at) }

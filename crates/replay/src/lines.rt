@@ -42,7 +42,7 @@ impl Place {
     }
 
     pub(crate) fn ended(mut self) -> Self
-        ensures { λ r. ⌜ (r .kept ≡ self .kept) × (r .at ≡ self .at) ⌝ }
+        ensures { λ r. ⌜ (r .kept ≡ self .kept) × (r .number ≡ self .number) × (r .at ≡ self .at) ⌝ }
     {
         self.more = false;
         self

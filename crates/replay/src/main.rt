@@ -4,8 +4,9 @@ mod fields;
 mod lines;
 
 ghost use mathlib.Core.Path.{_≡_};
+ghost use mathlib.Core.Bool.{true};
 ghost use lib.ListN.{length};
-ghost use Rattle.replay.specs.Reading.{most, Sound};
+ghost use Rattle.replay.specs.Reading.{most, reading, HasRead, Sound};
 use libc::STDIN_FILENO;
 use lines::Place;
 use lines::feed;
@@ -15,6 +16,7 @@ use lines::finish;
 fn step(line: &mut [u8], out: &mut [u8], place: Place) -> Place
     requires { ⌜ Sound (now line) place ⌝ }
     ensures { λ r. ⌜ Sound (now (line .exit)) r ⌝ }
+    ensures { λ r. ⌜ (r .well ≡ true → HasRead (reading (now (line .entry)) (now (out .entry)) place) (reading (now (line .exit)) (now (out .exit)) r)) ⌝ }
 {
     let mut input = io::large_buffer();
     let got = libc::read(STDIN_FILENO, &mut input);

@@ -35,7 +35,7 @@ loop-again : tie.Need-loop-again Inv-loop μ-loop
 loop-again c =
     let at-step = c .before .before .before .before in
     let at-loop = at-step .before .before .before .before .before .before in
-    (at-step .step .ensures, at-step .step .kept .0 ∙ at-loop .loop .inv .1, at-step .step .kept .1 .0 ∙ at-loop .loop .inv .2)
+    (at-step .step .ensures .0, at-step .step .kept .0 ∙ at-loop .loop .inv .1, at-step .step .kept .1 .0 ∙ at-loop .loop .inv .2)
 
 finish-requires : tie.Need-finish-requires Inv-loop μ-loop
 finish-requires c κs = search needs
