@@ -1,0 +1,122 @@
+-- A fresh start passes the audit, and all its sides are closed.
+use mathlib.Core.Path.{_≡_, refl, ap, _∙_}
+use mathlib.Core.List.{List, [], _∷_, map, append-nil}
+use Prim.Native.Nat.{ℕ, zero, suc, _+_, _≤_, _<_}
+use native.Mathlib.Omega.{arith}
+use lib.Dec.{eqb}
+use borrow.Author.Tests.{eqb-true, eqb-false}
+use lib.ListN.{length, replicate, length-replicate, getD-replicate}
+use Rattle.refusal.proofs.Cases.{by-test}
+use Rattle.rules.specs.declared.Pair.{Pair}
+use Rattle.rules.specs.declared.Slot.{Slot}
+use Rattle.rules.specs.Account.{Side, noSide}
+use Rattle.rules.specs.Split.{from}
+use Rattle.rules.specs.Slots.{noPair, noSlot, pairAt, spelled, heldBy, idle, free, queue, queues, join, times, sideOf, sides, Below, endsOf, Spells, Whole}
+use Rattle.rules.specs.Shares.{claimed, claims}
+use Rattle.rules.specs.Audit.{Audit}
+use Rattle.rules.specs.Requests.{sideAt, allClosed}
+use Rattle.rules.specs.Calls.{fresh}
+use Rattle.rules.proofs.Links.{Distinct, times-same, times-other, length-chain, spelled-is, spells-chain}
+use Rattle.rules.proofs.Disjoint.{each-once}
+use Rattle.rules.proofs.Good.{length-from, good-closed}
+use Rattle.rules.proofs.Well.{Well}
+use Rattle.rules.proofs.Tables.{audit-of}
+
+times-from-low : (i a n : ℕ) → i < a → times i (from a n) ≡ 0
+times-from-low i a zero h = refl
+times-from-low i a (suc n) h = omega (arith, times-other i a (from (suc a) n) (λ e. omega arith), times-from-low i (suc a) n (omega arith))
+
+distinct-from : (a n : ℕ) → Distinct (from a n)
+distinct-from a zero i = omega arith
+distinct-from a (suc n) i =
+    by-test (eqb i a)
+    (λ e. rw (eqb-true i a e) (omega (arith, times-same a (from (suc a) n), times-from-low a (suc a) n (omega arith))))
+    (λ e. omega (arith, times-other i a (from (suc a) n) (eqb-false i a e), distinct-from (suc a) n i))
+
+below-from : (m a n : ℕ) → a + n ≤ m → Below m (from a n)
+below-from m a zero h = tt
+below-from m a (suc n) h = (omega arith, below-from m (suc a) n (omega arith))
+
+-- a list of the same
+claimed-closed : (n : ℕ) → claimed (claims (replicate n noSide)) ≡ 0
+claimed-closed zero = refl
+claimed-closed (suc n) = omega (arith, claimed-closed n)
+
+pub well-closed : (pairs slots : ℕ) → Well pairs slots (replicate pairs noSide)
+unfolding sideAt
+well-closed pairs slots =
+    record {
+      count = length-replicate pairs noSide;
+      good = λ p h. rw (getD-replicate pairs p noSide noSide h) (good-closed slots);
+      shares = omega (arith, claimed-closed pairs) }
+
+module _ (none pairs slots : ℕ) where
+  shut : Pair
+  shut = record { standing = noPair .standing; queue = endsOf none [] }
+
+  held-none : (n : ℕ) → heldBy (replicate n shut) ≡ 0
+  unfolding shut
+  held-none zero = refl
+  held-none (suc n) = omega (arith, held-none n)
+
+  queues-none : (s : List Slot) (n : ℕ) → join (map (λ q. spelled s (q .queue)) (replicate n shut)) ≡ []
+  unfolding shut
+  queues-none s zero = refl
+  queues-none s (suc n) = queues-none s n
+
+  sides-none : (s : List Slot) (n : ℕ) → map (sideOf s) (replicate n shut) ≡ replicate n noSide
+  unfolding shut sideOf
+  sides-none s zero = refl
+  sides-none s (suc n) = ap (λ (l : List Side). noSide ∷ l) (sides-none s n)
+
+  pub fresh-sides : sides (fresh none pairs slots) ≡ allClosed pairs
+  unfolding fresh shut
+  fresh-sides = sides-none _ pairs
+
+  fresh-pair : (p : ℕ) → p < pairs → pairAt (fresh none pairs slots .pairs) p ≡ shut
+  unfolding fresh shut pairAt
+  fresh-pair p h = getD-replicate pairs p shut noPair h
+
+  count : length (fresh none pairs slots .slots) ≡ slots
+  unfolding fresh
+  count = length-chain none (from 0 slots) (replicate slots noSlot) ∙ length-replicate slots noSlot
+
+  pub free-runs : Spells none (fresh none pairs slots .slots) (idle (fresh none pairs slots)) (from 0 slots)
+  unfolding fresh shut
+  free-runs =
+      let c = spells-chain none (from 0 slots) (replicate slots noSlot) (distinct-from 0 slots) (below-from _ 0 slots (omega (arith, length-replicate slots noSlot))) in
+      record { first = refl; last = refl; held = omega (arith, count, held-none pairs, length-from 0 slots); linked = c .linked; below = c .below }
+
+  pub fresh-free : free (fresh none pairs slots) ≡ from 0 slots
+  fresh-free = spelled-is none free-runs
+
+  pairs-count : length (fresh none pairs slots .pairs) ≡ pairs
+  unfolding fresh shut
+  pairs-count = length-replicate pairs shut
+
+  nothing-spelled : (s : List Slot) → Spells none s (shut .queue) (spelled s (shut .queue))
+  unfolding shut
+  nothing-spelled s = record { first = refl; last = refl; held = refl; linked = tt; below = tt }
+
+  none-held : join (queues (fresh none pairs slots)) ≡ []
+  unfolding fresh shut
+  none-held = queues-none (fresh none pairs slots .slots) pairs
+
+  shut-empty : shut .queue .held ≡ 0
+  unfolding shut
+  shut-empty = refl
+
+  pub fresh-whole : Whole none pairs slots (fresh none pairs slots)
+  fresh-whole =
+      record {
+        pair-records = pairs-count;
+        slot-records = count;
+        pairs-run = λ p h. rw (fresh-pair p h) (nothing-spelled (fresh none pairs slots .slots));
+        free-runs = rw fresh-free free-runs;
+        once = λ i h.
+          rw (fresh-free, none-held, append-nil (from 0 slots))
+          (each-once slots (from 0 slots) (distinct-from 0 slots) (below-from slots 0 slots (omega arith)) (length-from 0 slots) i h);
+        idle-empty = λ p h n. rw (fresh-pair p h) shut-empty }
+
+  pub fresh-audit : Audit none pairs slots (fresh none pairs slots)
+  fresh-audit = audit-of none pairs slots (fresh none pairs slots) fresh-whole (rw fresh-sides (well-closed pairs slots))

@@ -1,0 +1,94 @@
+-- What a program does to release before b: it looks from the front until a record stops it. On an ordered pair that is document 01's rule.
+use mathlib.Core.Path.{_≡_, refl, sym, ap}
+use mathlib.Core.Bool.{Bool, true, false, not, _&&_, _||_, true≢false}
+use mathlib.Core.List.{List, [], _∷_}
+use Prim.Native.Nat.{ℕ, suc, _+_, _≤_, _<_}
+use native.Mathlib.Omega.{arith}
+use native.Mathlib.Nat.{le-of-suc-le-suc, not-suc-le-zero}
+use lib.Dec.{ltb}
+use borrow.Author.Tests.{ltb-true, ltb-false, lt-ltb, le-ltb}
+use lib.ListN.{length}
+use Rattle.refusal.proofs.Cases.{by-test}
+use Rattle.rules.specs.declared.Packet.{Packet}
+use Rattle.rules.specs.declared.Standing.{Standing}
+use Rattle.psn.specs.Psn.{psns, half, distance, before}
+use Rattle.rules.specs.Account.{Side, U, N, ahead, isRead, span}
+use Rattle.rules.specs.Rules.{unanswered, passedBy, release}
+use Rattle.rules.specs.Order.{_or_, left, right, Runs, Ordered}
+use Rattle.rules.proofs.Order.{runs-end, unanswered-is, halted, span-pos, Part, whole-or-part, none-passed, none-before}
+use Rattle.psn.proofs.Laws.{distance-same}
+
+-- the test of a by-value step: this record stays
+abbrev pub stays : ℕ → Standing → Packet → Bool
+stays b t p = isRead p || not (before (t .line .u) (p .psn) b)
+
+and-left : (a b : Bool) → a && b ≡ true → a ≡ true
+and-left true b e = refl
+and-left false b e = e
+
+pub or-true : (a : Bool) → a || true ≡ true
+or-true true = refl
+or-true false = refl
+
+module _ (t : Standing) (u-low : t .line .u < psns) (b n : ℕ) (near : distance (t .line .u) n ≤ half) where
+  -- a read that is before b is passed
+  pub no-read : (o : ℕ) (p : Packet) (ps : List Packet) → Runs (span (t .settings)) (t .line .u) o (p ∷ ps) n
+      → passedBy b t p ≡ false → before (t .line .u) (p .psn) b ≡ true → isRead p ≡ false
+  no-read o p ps r e sure = by-test (isRead p) (λ q. absurd (true≢false (rw (unanswered-is t u-low b p (r .0) room, sure, q) at e))) (λ q. q)
+    where
+      room : distance (t .line .u) (p .psn) + span (t .settings) p ≤ half
+      room = omega (arith, runs-end (span (t .settings)) (t .line .u) u-low (o + span (t .settings) p) ps n (r .2), r .1)
+
+  scan-stopped : (o : ℕ) (ps : List Packet) → Runs (span (t .settings)) (t .line .u) o ps n → ahead (passedBy b t) ps < length ps
+      → ahead (stays b t) ps ≡ ahead (passedBy b t) ps
+  scan-stopped o [] r a = refl
+  scan-stopped o (p ∷ ps) r a =
+      by-test (passedBy b t p)
+      (λ e. rw (e, and-left (isRead p) _ e))
+      (λ e.
+        let a′ = le-of-suc-le-suc (rw e at a) in
+        let c = halted t u-low b (o + span (t .settings) p) ps n (r .2) near a′ in
+        let early : distance (t .line .u) (p .psn) < distance (t .line .u) b = omega (arith, r .1, c .past, c .short, span-pos (t .settings) p) in
+        let sure : before (t .line .u) (p .psn) b ≡ true = lt-ltb (distance (t .line .u) (p .psn)) (distance (t .line .u) b) early in
+        rw (e, no-read o p ps r e sure, sure) (ap suc (scan-stopped (o + span (t .settings) p) ps (r .2) a′)))
+
+  scan-clear : (ps : List Packet) (o : ℕ) → Runs (span (t .settings)) (t .line .u) o ps n → length ps ≤ ahead (passedBy b t) ps
+      → ahead (stays b t) ps ≡ ahead (λ p. not (before (t .line .u) (p .psn) b)) ps
+  scan-clear [] o r a = refl
+  scan-clear (p ∷ ps) o r a =
+      by-test (passedBy b t p)
+      (λ e. absurd (not-suc-le-zero (rw e at a)))
+      (λ e. by-test (before (t .line .u) (p .psn) b)
+        (λ sure. rw (no-read o p ps r e sure, sure) (ap suc (scan-clear ps (o + span (t .settings) p) (r .2) (le-of-suc-le-suc (rw e at a)))))
+        (λ sure. rw (sure, or-true (isRead p))))
+
+-- how many leave is how many the scan passes over
+pub released-is : (s : Side) → Ordered s → (b : ℕ) → release b s .released ≡ ahead (stays b (s .standing)) (s .packets)
+unfolding release
+released-is s o b = go (whole-or-part (s .standing .settings) (U s) (N s) (o .u-low) (s .packets) (o .starts))
+  where
+    go : Runs (span (s .standing .settings)) (U s) 0 (s .packets) (N s) or Part (s .standing .settings) (U s) (s .packets)
+        → release b s .released ≡ ahead (stays b (s .standing)) (s .packets)
+    go (left r) =
+        by-test (ltb (ahead (passedBy b (s .standing)) (s .packets)) (length (s .packets)))
+        (λ e. rw e (sym (scan-stopped (s .standing) (o .u-low) b (N s) (o .near) 0 (s .packets) r (ltb-true _ (length (s .packets)) e))))
+        (λ e. rw e (sym (scan-clear (s .standing) (o .u-low) b (N s) (o .near) (s .packets) 0 r (ltb-false _ (length (s .packets)) e))))
+    go (right c) =
+        rw (stands)
+        (by-test (ltb 0 (distance (U s) b))
+          (λ e. rw (first e, some))
+          (λ e.
+            let z : distance (U s) b ≡ 0 = omega (arith, ltb-false) in
+            rw (le-ltb _ _ (none-passed (s .standing) b z (s .packets)), none-before (s .standing) b z (s .packets))))
+      where
+        stands : ahead (stays b (s .standing)) (s .packets) ≡ 0
+        stands = rw (c .is) (rw (c .read))
+
+        at-u : unanswered (s .standing) (c .head) ≡ U s
+        at-u = rw (lt-ltb _ _ (c .inside))
+
+        first : ltb 0 (distance (U s) b) ≡ true → ahead (passedBy b (s .standing)) (s .packets) ≡ 0
+        first e = rw (c .is) (rw (at-u, distance-same, c .read, e))
+
+        some : ltb 0 (length (s .packets)) ≡ true
+        some = rw (c .is) (lt-ltb 0 (suc (length (c .tail))) (omega arith))

@@ -1,0 +1,15 @@
+pub mod Account
+pub mod Rules
+pub mod Split
+pub mod Response
+pub mod Timer
+pub mod Emission
+pub mod Shares
+pub mod Requests
+pub mod Slots
+pub mod Order
+pub mod Messages
+pub mod Audit
+pub mod Calls
+pub mod History
+pub mod Numbers
