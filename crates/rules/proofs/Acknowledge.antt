@@ -15,13 +15,16 @@ use Rattle.rules.specs.declared.Answer.{Answer}
 use Rattle.rules.specs.declared.Answer.the-variants.{Resending, Held}
 use Rattle.psn.specs.Psn.{psns, distance, plus}
 use Rattle.rules.specs.Account.{Side, U, H, ahead}
-use Rattle.rules.specs.Rules.{passedBy, release, Release, resent, Outcome, after, inside, ack, endAt, rnr, acknowledge}
-use Rattle.rules.specs.Order.{_or_, left, right, Ordered}
+use Rattle.rules.specs.Outcome.{Outcome, after}
+use Rattle.rules.specs.Release.{passedBy, release, Release}
+use Rattle.rules.specs.Acknowledge.{resent, inside, ack, final, rnr, acknowledge}
+use Rattle.rules.specs.Order.{_or_, left, right}
+use Rattle.rules.proofs.InOrder.{InOrder}
 use Rattle.psn.proofs.Laws.{distance-same, distance-step}
 use Rattle.rules.proofs.Order.{ordered-release}
 
-pub ordered-resent : (t : Standing) (ps : List Packet) (left wait : ℕ) → Ordered (record { standing = t; packets = ps })
-    → Ordered (record { standing = resent left wait t; packets = ps })
+pub ordered-resent : (t : Standing) (ps : List Packet) (left wait : ℕ) → InOrder (record { standing = t; packets = ps })
+    → InOrder (record { standing = resent left wait t; packets = ps })
 ordered-resent t ps l w o =
     record {
       u-low = o .u-low;
@@ -39,9 +42,9 @@ ordered-resent t ps l w o =
 -- what an outcome is: the pair still ready and in order, or ended with nothing left. The settings stay
 pub record Fine (s : Side) (o : Outcome) : Type 0 where
   pub settings : o .standing .settings ≡ s .standing .settings
-  pub fate : ((o .standing .state ≡ 1) × Ordered (after o s)) or ((o .standing .state ≡ 2) × (length (s .packets) ≤ o .released + o .flushed))
+  pub fate : ((o .standing .state ≡ 1) × InOrder (after o s)) or ((o .standing .state ≡ 2) × (length (s .packets) ≤ o .released + o .flushed))
 
-module _ (s : Side) (ready : s .standing .state ≡ 1) (o : Ordered s) where
+module _ (s : Side) (ready : s .standing .state ≡ 1) (o : InOrder s) where
   pub release-keeps : (b : ℕ) → (release b s .standing .state ≡ 1) × (release b s .standing .settings ≡ s .standing .settings)
   unfolding release
   release-keeps b =
@@ -71,7 +74,7 @@ module _ (s : Side) (ready : s .standing .state ≡ 1) (o : Ordered s) where
           settings = release-keeps (plus r 1) .1;
           fate = left (release-keeps (plus r 1) .0, rw add-zero (ordered-release s o (plus r 1) (omega arith) next-low)) })
 
-    fine-end : Fine s (endAt r s)
+    fine-end : Fine s (final r s)
     fine-end = record { settings = release-keeps r .1; fate = right (refl, omega arith) }
 
     fine-rnr : (wait : ℕ) → Fine s (rnr r wait s)

@@ -16,7 +16,9 @@ use Rattle.rules.specs.declared.Packet.{Packet}
 use Rattle.rules.specs.declared.Queue.{Queue}
 use Rattle.rules.specs.declared.Pair.{Pair}
 use Rattle.rules.specs.declared.Slot.{Slot}
-use Rattle.rules.specs.Slots.{Tables, slotAt, pairAt, heldBy, idle, sideOf, follow, spelled, relinked, times, join, queues, queue, free, side, Below, firstOf, lastOf, endsOf, chain, Linked, Spells, arranged, freed, stored, filled, holding, Whole}
+use Rattle.rules.specs.Card.{Card}
+use Rattle.rules.specs.Slots.{Tables, slotAt, pairAt, heldBy, idle, sideOf, follow, spelled, relinked, times, join, queues, queue, free, side, Below, firstOf, lastOf, endsOf, chain, Linked, Spells, arranged, freed, stored, filled, holding}
+use Rattle.rules.specs.Audit.{Whole}
 use Rattle.rules.proofs.Links.{Distinct, Apart, times-append, times-parts, times-tail, times-same, times-not-head, below-append, below-take, length-chain, chain-packet, chain-linked, linked-drop, linked-apart, linked-same, chain-front, chain-twice, hang, spelled-is, spells-chain, spells-apart, below-of}
 use Rattle.rules.proofs.Disjoint.{length-of-once}
 
@@ -147,21 +149,21 @@ held-set [] p x h = absurd (not-suc-le-zero h)
 held-set (q ∷ ps) zero x h = omega arith
 held-set (q ∷ ps) (suc p) x h = omega (arith, held-set ps p x (le-of-suc-le-suc h))
 
-module _ (none pairs slots : ℕ) (t : Tables) (w : Whole none pairs slots t) where
-  free-below : Below slots (free t)
+module _ (card : Card) (t : Tables) (w : Whole card t) where
+  free-below : Below (card .slots) (free t)
   free-below = subst (λ (n : ℕ). Below n (free t)) (w .slot-records) (w .free-runs .below)
 
-  pub all-below : Below slots (free t ++ join (queues t))
+  pub all-below : Below (card .slots) (free t ++ join (queues t))
   all-below =
-      below-append slots (free t) (join (queues t)) free-below
-      (below-join slots (queues t) (λ p h.
+      below-append (card .slots) (free t) (join (queues t)) free-below
+      (below-join (card .slots) (queues t) (λ p h.
         rw (queue-is t p) (rw (w .slot-records) at (w .pairs-run p (omega (arith, queues-count t, w .pair-records)) .below))))
 
   -- no slot is lost
-  pub all-slots : heldBy (t .pairs) + length (free t) ≡ slots
+  pub all-slots : heldBy (t .pairs) + length (free t) ≡ card .slots
   all-slots =
       omega (arith,
-        length-of-once slots (free t ++ join (queues t)) all-below (w .once),
+        length-of-once (card .slots) (free t ++ join (queues t)) all-below (w .once),
         length-append (free t) (join (queues t)),
         length-queues (t .slots) (t .pairs))
 
@@ -169,35 +171,35 @@ module _ (none pairs slots : ℕ) (t : Tables) (w : Whole none pairs slots t) wh
   pub at-most-once : (i : ℕ) → times i (free t) + times i (join (queues t)) ≤ 1
   at-most-once i =
       rw (← times-append i (free t) (join (queues t)))
-      (by-test (ltb i slots)
-        (λ e. omega (arith, w .once i (ltb-true i slots e)))
-        (λ e. omega (arith, times-below slots i (free t ++ join (queues t)) all-below (ltb-false i slots e))))
+      (by-test (ltb i (card .slots))
+        (λ e. omega (arith, w .once i (ltb-true i (card .slots) e)))
+        (λ e. omega (arith, times-below (card .slots) i (free t ++ join (queues t)) all-below (ltb-false i (card .slots) e))))
 
   pub pair-and-free : (p i : ℕ) → times i (free t) + times i (queue t p) ≤ 1
   pair-and-free p i = omega (arith, at-most-once i, rw (queue-is t p) at (times-join-at i (queues t) p))
 
-  pub two-pairs : (p r i : ℕ) → p < pairs → r ≢ p → times i (free t) + times i (queue t p) + times i (queue t r) ≤ 1
+  pub two-pairs : (p r i : ℕ) → p < card .pairs → r ≢ p → times i (free t) + times i (queue t p) + times i (queue t r) ≤ 1
   two-pairs p r i h d =
       omega (arith, at-most-once i, rw (queue-is t p, queue-is t r) at (times-join-two i (queues t) p r (omega (arith, queues-count t, w .pair-records)) d))
 
   -- a queue's slots, all told
-  member : (p i : ℕ) → p < pairs → 1 ≤ times i (free t) + times i (queue t p) → i < slots
+  member : (p i : ℕ) → p < card .pairs → 1 ≤ times i (free t) + times i (queue t p) → i < card .slots
   member p i h m =
-      by-test (ltb i slots)
-      (ltb-true i slots)
+      by-test (ltb i (card .slots))
+      (ltb-true i (card .slots))
       (λ e. absurd (omega (arith,
-        times-below slots i (free t) free-below (ltb-false i slots e),
-        times-below slots i (queue t p) (rw (w .slot-records) at (w .pairs-run p h .below)) (ltb-false i slots e))))
+        times-below (card .slots) i (free t) free-below (ltb-false i (card .slots) e),
+        times-below (card .slots) i (queue t p) (rw (w .slot-records) at (w .pairs-run p h .below)) (ltb-false i (card .slots) e))))
 
   -- the lists F and Q share out the slots of the free queue and of p's; the slots s have the same links, and differ only in Q's packets
-  module _ (p : ℕ) (hp : p < pairs) (st : Standing) (Q F : List ℕ) (s : List Slot)
+  module _ (p : ℕ) (hp : p < card .pairs) (st : Standing) (Q F : List ℕ) (s : List Slot)
       (as-long : length s ≡ length (t .slots))
       (same-links : (i : ℕ) → slotAt s i .link ≡ slotAt (t .slots) i .link)
       (same-others : (i : ℕ) → times i Q ≡ 0 → slotAt s i .packet ≡ slotAt (t .slots) i .packet)
       (share : (i : ℕ) → times i F + times i Q ≡ times i (free t) + times i (queue t p))
       (as-many : length F + length Q ≡ length (free t) + length (queue t p)) where
     next : Tables
-    next = arranged none p st Q F s t
+    next = arranged (card .none) p st Q F s t
 
     F-distinct : Distinct F
     F-distinct i = omega (arith, share i, pair-and-free p i)
@@ -221,80 +223,80 @@ module _ (none pairs slots : ℕ) (t : Tables) (w : Whole none pairs slots t) wh
     Q-below = below-of (length s) Q (λ i m. rw (as-long, w .slot-records) (member p i hp (omega (arith, share i))))
 
     -- the queues after
-    held-after : heldBy (set (t .pairs) p (record { standing = st; queue = endsOf none Q })) + length F ≡ slots
+    held-after : heldBy (set (t .pairs) p (record { standing = st; queue = endsOf (card .none) Q })) + length F ≡ card .slots
     held-after =
         omega (arith,
-          held-set (t .pairs) p (record { standing = st; queue = endsOf none Q }) (omega (arith, w .pair-records)),
+          held-set (t .pairs) p (record { standing = st; queue = endsOf (card .none) Q }) (omega (arith, w .pair-records)),
           length-follow (t .slots) (pairAt (t .pairs) p .queue .first) (pairAt (t .pairs) p .queue .held),
           as-many, all-slots)
 
-    pub free-after : Spells none (arranged none p st Q F s t .slots) (idle (arranged none p st Q F s t)) F
+    pub free-after : Spells (card .none) (arranged (card .none) p st Q F s t .slots) (idle (arranged (card .none) p st Q F s t)) F
     unfolding arranged
     free-after =
         record { first = refl; last = refl; held = count; linked = c .linked; below = c .below }
       where
-        c : Spells none (chain none F (chain none Q s)) (endsOf none F) F
-        c = spells-chain none F (chain none Q s) F-distinct (rw length-chain F-below)
+        c : Spells (card .none) (chain (card .none) F (chain (card .none) Q s)) (endsOf (card .none) F) F
+        c = spells-chain (card .none) F (chain (card .none) Q s) F-distinct (rw length-chain F-below)
 
-        count : length (chain none F (chain none Q s)) - heldBy (set (t .pairs) p (record { standing = st; queue = endsOf none Q })) ≡ length F
-        count = omega (arith, length-chain none F (chain none Q s), length-chain none Q s, as-long, w .slot-records, held-after)
+        count : length (chain (card .none) F (chain (card .none) Q s)) - heldBy (set (t .pairs) p (record { standing = st; queue = endsOf (card .none) Q })) ≡ length F
+        count = omega (arith, length-chain (card .none) F (chain (card .none) Q s), length-chain (card .none) Q s, as-long, w .slot-records, held-after)
 
-    pub pair-after : Spells none (arranged none p st Q F s t .slots) (pairAt (arranged none p st Q F s t .pairs) p .queue) Q
+    pub pair-after : Spells (card .none) (arranged (card .none) p st Q F s t .slots) (pairAt (arranged (card .none) p st Q F s t .pairs) p .queue) Q
     unfolding arranged
     pair-after =
         rw (pair-same (t .pairs) p _ (omega (arith, w .pair-records)))
-        (spells-apart none F F-Q (spells-chain none Q s Q-distinct Q-below))
+        (spells-apart (card .none) F F-Q (spells-chain (card .none) Q s Q-distinct Q-below))
 
-    pub others-after : (r : ℕ) → r < pairs → r ≢ p
-        → Spells none (arranged none p st Q F s t .slots) (pairAt (arranged none p st Q F s t .pairs) r .queue) (queue t r)
+    pub others-after : (r : ℕ) → r < card .pairs → r ≢ p
+        → Spells (card .none) (arranged (card .none) p st Q F s t .slots) (pairAt (arranged (card .none) p st Q F s t .pairs) r .queue) (queue t r)
     unfolding arranged
     others-after r h d =
         rw (pair-other (t .pairs) p r _ d)
-        (spells-apart none F (F-others r d) (spells-apart none Q (Q-others r d)
-          (record { first = run .first; last = run .last; held = run .held; linked = linked-same none (t .slots) s same-links (queue t r) (run .linked); below = rw as-long (run .below) })))
+        (spells-apart (card .none) F (F-others r d) (spells-apart (card .none) Q (Q-others r d)
+          (record { first = run .first; last = run .last; held = run .held; linked = linked-same (card .none) (t .slots) s same-links (queue t r) (run .linked); below = rw as-long (run .below) })))
       where
-        run : Spells none (t .slots) (pairAt (t .pairs) r .queue) (queue t r)
+        run : Spells (card .none) (t .slots) (pairAt (t .pairs) r .queue) (queue t r)
         run = w .pairs-run r h
 
     -- (c) the account: p's side is as given, and no other side moves
-    pub side-after : side (arranged none p st Q F s t) p ≡ record { standing = st; packets = map (λ i. slotAt s i .packet) Q }
+    pub side-after : side (arranged (card .none) p st Q F s t) p ≡ record { standing = st; packets = map (λ i. slotAt s i .packet) Q }
     unfolding side sideOf arranged
     side-after = λ i. record { standing = standing i; packets = packets i }
       where
-        standing : pairAt (arranged none p st Q F s t .pairs) p .standing ≡ st
+        standing : pairAt (arranged (card .none) p st Q F s t .pairs) p .standing ≡ st
         standing = rw (pair-same (t .pairs) p _ (omega (arith, w .pair-records)))
 
-        packets : map (λ i. slotAt (arranged none p st Q F s t .slots) i .packet) (queue (arranged none p st Q F s t) p) ≡ map (λ i. slotAt s i .packet) Q
-        packets = rw (spelled-is none pair-after) (simp chain-packet)
+        packets : map (λ i. slotAt (arranged (card .none) p st Q F s t .slots) i .packet) (queue (arranged (card .none) p st Q F s t) p) ≡ map (λ i. slotAt s i .packet) Q
+        packets = rw (spelled-is (card .none) pair-after) (simp chain-packet)
 
-    pub side-others : (r : ℕ) → r < pairs → r ≢ p → side (arranged none p st Q F s t) r ≡ side t r
+    pub side-others : (r : ℕ) → r < card .pairs → r ≢ p → side (arranged (card .none) p st Q F s t) r ≡ side t r
     unfolding side sideOf arranged
     side-others r h d = λ i. record { standing = standing i; packets = packets i }
       where
-        standing : pairAt (arranged none p st Q F s t .pairs) r .standing ≡ pairAt (t .pairs) r .standing
+        standing : pairAt (arranged (card .none) p st Q F s t .pairs) r .standing ≡ pairAt (t .pairs) r .standing
         standing = rw (pair-other (t .pairs) p r _ d)
 
-        packets : map (λ i. slotAt (arranged none p st Q F s t .slots) i .packet) (queue (arranged none p st Q F s t) r)
+        packets : map (λ i. slotAt (arranged (card .none) p st Q F s t .slots) i .packet) (queue (arranged (card .none) p st Q F s t) r)
             ≡ map (λ i. slotAt (t .slots) i .packet) (queue t r)
         packets =
-            rw (spelled-is none (others-after r h d))
+            rw (spelled-is (card .none) (others-after r h d))
             (simp chain-packet (map-on (λ i. slotAt s i .packet) (λ i. slotAt (t .slots) i .packet) (queue t r)
               (λ i m. same-others i (omega (arith, Q-others r d i)))))
 
-    pub pairs-after : length (arranged none p st Q F s t .pairs) ≡ length (t .pairs)
+    pub pairs-after : length (arranged (card .none) p st Q F s t .pairs) ≡ length (t .pairs)
     unfolding arranged
     pairs-after = simp length-set
 
-    pub slots-after : length (arranged none p st Q F s t .slots) ≡ length (t .slots)
+    pub slots-after : length (arranged (card .none) p st Q F s t .slots) ≡ length (t .slots)
     unfolding arranged
     slots-after = simp (length-chain, as-long)
 
     -- the lists after, all together
-    pub queues-after : queues (arranged none p st Q F s t) ≡ set (queues t) p Q
+    pub queues-after : queues (arranged (card .none) p st Q F s t) ≡ set (queues t) p Q
     queues-after = ext-getD [] _ _ counts at
       where
         after : Tables
-        after = arranged none p st Q F s t
+        after = arranged (card .none) p st Q F s t
 
         counts : length (queues after) ≡ length (set (queues t) p Q)
         counts = queues-count after ∙ pairs-after ∙ sym (length-set (queues t) p Q ∙ queues-count t)
@@ -303,14 +305,14 @@ module _ (none pairs slots : ℕ) (t : Tables) (w : Whole none pairs slots t) wh
         at r h =
             queue-is after r
             ∙ by-test (eqb r p)
-                (λ e. rw (eqb-true r p e) (spelled-is none pair-after ∙ sym (getD-set-same (queues t) p _ [] (omega (arith, queues-count t, w .pair-records)))))
+                (λ e. rw (eqb-true r p e) (spelled-is (card .none) pair-after ∙ sym (getD-set-same (queues t) p _ [] (omega (arith, queues-count t, w .pair-records)))))
                 (λ e.
-                  spelled-is none (others-after r (omega (arith, queues-count after, pairs-after, w .pair-records)) (eqb-false r p e))
+                  spelled-is (card .none) (others-after r (omega (arith, queues-count after, pairs-after, w .pair-records)) (eqb-false r p e))
                   ∙ sym (getD-set-other (queues t) p r _ [] (eqb-false r p e) ∙ queue-is t r))
 
-    pub once-after : (i : ℕ) → i < slots → times i (free (arranged none p st Q F s t) ++ join (queues (arranged none p st Q F s t))) ≡ 1
+    pub once-after : (i : ℕ) → i < card .slots → times i (free (arranged (card .none) p st Q F s t) ++ join (queues (arranged (card .none) p st Q F s t))) ≡ 1
     once-after i h =
-        rw (queues-after, spelled-is none free-after)
+        rw (queues-after, spelled-is (card .none) free-after)
         (omega (arith,
           times-append i F (join (set (queues t) p Q)),
           share i,
@@ -318,26 +320,26 @@ module _ (none pairs slots : ℕ) (t : Tables) (w : Whole none pairs slots t) wh
           rw times-append at (w .once i h)))
 
     -- (6) whole tables stay whole
-    pub whole-after : ((st .state ≡ 1 → ⊥) → length Q ≡ 0) → Whole none pairs slots (arranged none p st Q F s t)
+    pub whole-after : ((st .state ≡ 1 → ⊥) → length Q ≡ 0) → Whole card (arranged (card .none) p st Q F s t)
     unfolding arranged
     whole-after idle =
         record {
           pair-records = pairs-after ∙ w .pair-records;
           slot-records = slots-after ∙ w .slot-records;
           pairs-run = runs;
-          free-runs = rw (spelled-is none free-after) free-after;
+          free-runs = rw (spelled-is (card .none) free-after) free-after;
           once = once-after;
           idle-empty = empty }
       where
-        runs : (r : ℕ) → r < pairs
-            → Spells none (arranged none p st Q F s t .slots) (pairAt (arranged none p st Q F s t .pairs) r .queue) (queue (arranged none p st Q F s t) r)
+        runs : (r : ℕ) → r < card .pairs
+            → Spells (card .none) (arranged (card .none) p st Q F s t .slots) (pairAt (arranged (card .none) p st Q F s t .pairs) r .queue) (queue (arranged (card .none) p st Q F s t) r)
         runs r h =
             by-test (eqb r p)
-            (λ e. rw (eqb-true r p e) (rw (spelled-is none pair-after) pair-after))
-            (λ e. let x = others-after r h (eqb-false r p e) in rw (spelled-is none x) x)
+            (λ e. rw (eqb-true r p e) (rw (spelled-is (card .none) pair-after) pair-after))
+            (λ e. let x = others-after r h (eqb-false r p e) in rw (spelled-is (card .none) x) x)
 
-        empty : (r : ℕ) → r < pairs → (pairAt (arranged none p st Q F s t .pairs) r .standing .state ≡ 1 → ⊥)
-            → pairAt (arranged none p st Q F s t .pairs) r .queue .held ≡ 0
+        empty : (r : ℕ) → r < card .pairs → (pairAt (arranged (card .none) p st Q F s t .pairs) r .standing .state ≡ 1 → ⊥)
+            → pairAt (arranged (card .none) p st Q F s t .pairs) r .queue .held ≡ 0
         empty r h n =
             by-test (eqb r p)
             (λ e.
@@ -349,7 +351,7 @@ module _ (none pairs slots : ℕ) (t : Tables) (w : Whole none pairs slots t) wh
 
   -- ---- the two uses
 
-  module _ (p : ℕ) (hp : p < pairs) (st : Standing) (k : ℕ) where
+  module _ (p : ℕ) (hp : p < card .pairs) (st : Standing) (k : ℕ) where
     freed-share : (i : ℕ) → times i (free t ++ take k (queue t p)) + times i (drop k (queue t p)) ≡ times i (free t) + times i (queue t p)
     freed-share i = omega (arith, times-append i (free t) (take k (queue t p)), times-parts i k (queue t p))
 
@@ -357,32 +359,32 @@ module _ (none pairs slots : ℕ) (t : Tables) (w : Whole none pairs slots t) wh
     freed-many =
         omega (arith, length-append (free t) (take k (queue t p)), length-append (take k (queue t p)) (drop k (queue t p)), ap length (take-append-drop k (queue t p)))
 
-    pub freed-side : side (freed none p st k t) p ≡ record { standing = st; packets = drop k (side t p .packets) }
+    pub freed-side : side (freed (card .none) p st k t) p ≡ record { standing = st; packets = drop k (side t p .packets) }
     unfolding side sideOf
     freed-side =
         side-after p hp st _ _ (t .slots) refl (λ i. refl) (λ i z. refl) freed-share freed-many
         ∙ ap (λ (ps : List Packet). record { standing = st; packets = ps }) (map-drop (λ i. slotAt (t .slots) i .packet) k (queue t p))
 
-    pub freed-others : (r : ℕ) → r < pairs → r ≢ p → side (freed none p st k t) r ≡ side t r
+    pub freed-others : (r : ℕ) → r < card .pairs → r ≢ p → side (freed (card .none) p st k t) r ≡ side t r
     freed-others = side-others p hp st _ _ (t .slots) refl (λ i. refl) (λ i z. refl) freed-share freed-many
 
-    pub freed-whole : ((st .state ≡ 1 → ⊥) → length (queue t p) ≤ k) → Whole none pairs slots (freed none p st k t)
+    pub freed-whole : ((st .state ≡ 1 → ⊥) → length (queue t p) ≤ k) → Whole card (freed (card .none) p st k t)
     freed-whole idle =
         whole-after p hp st _ _ (t .slots) refl (λ i. refl) (λ i z. refl) freed-share freed-many
         (λ n. omega (arith, length-drop k (queue t p), idle n))
 
     -- (b) what is written: the links of the longer free list only
-    pub freed-slots : freed none p st k t .slots ≡ chain none (free t ++ take k (queue t p)) (t .slots)
+    pub freed-slots : freed (card .none) p st k t .slots ≡ chain (card .none) (free t ++ take k (queue t p)) (t .slots)
     unfolding arranged
-    freed-slots = rw (chain-linked none (drop k (queue t p)) (t .slots) (linked-drop none k (t .slots) (queue t p) (w .pairs-run p hp .linked)))
+    freed-slots = rw (chain-linked (card .none) (drop k (queue t p)) (t .slots) (linked-drop (card .none) k (t .slots) (queue t p) (w .pairs-run p hp .linked)))
 
     -- and of those only two, if a run b, .., z of p's front goes to the end of a free queue that is not empty
     pub freed-writes : (a : ℕ) (f : List ℕ) (b : ℕ) (l m : List ℕ) → free t ≡ a ∷ f → queue t p ≡ (b ∷ l) ++ m → take k (queue t p) ≡ b ∷ l
-        → freed none p st k t .slots ≡ relinked (t .ends .last) b (relinked (lastOf none (b ∷ l)) none (t .slots))
+        → freed (card .none) p st k t .slots ≡ relinked (t .ends .last) b (relinked (lastOf (card .none) (b ∷ l)) (card .none) (t .slots))
     freed-writes a f b l m ef eq ek =
         freed-slots
         ∙ rw (w .free-runs .last, ef, ek)
-          (hang none a f b l m (t .slots)
+          (hang (card .none) a f b l m (t .slots)
             (λ i. omega (arith, rw ef at (pair-and-free p i)))
             (λ i. omega (arith, rw ef at (pair-and-free p i), rw ek at (times-parts i k (queue t p))))
             (λ i. omega (arith, pair-and-free p i, rw ek at (times-parts i k (queue t p))))
@@ -391,34 +393,34 @@ module _ (none pairs slots : ℕ) (t : Tables) (w : Whole none pairs slots t) wh
 
     -- where the free queue is empty, one
     pub freed-writes-empty : (b : ℕ) (l m : List ℕ) → free t ≡ [] → queue t p ≡ (b ∷ l) ++ m → take k (queue t p) ≡ b ∷ l
-        → freed none p st k t .slots ≡ relinked (lastOf none (b ∷ l)) none (t .slots)
+        → freed (card .none) p st k t .slots ≡ relinked (lastOf (card .none) (b ∷ l)) (card .none) (t .slots)
     freed-writes-empty b l m ef eq ek =
         freed-slots
         ∙ rw (ef, ek)
-          (chain-front none b l m (t .slots)
+          (chain-front (card .none) b l m (t .slots)
             (λ i. omega (arith, pair-and-free p i, rw ek at (times-parts i k (queue t p))))
             (rw eq at (w .pairs-run p hp .linked)))
 
-    freed-pair : Spells none (freed none p st k t .slots) (pairAt (freed none p st k t .pairs) p .queue) (drop k (queue t p))
+    freed-pair : Spells (card .none) (freed (card .none) p st k t .slots) (pairAt (freed (card .none) p st k t .pairs) p .queue) (drop k (queue t p))
     freed-pair = pair-after p hp st (drop k (queue t p)) (free t ++ take k (queue t p)) (t .slots) refl (λ i. refl) (λ i z. refl) freed-share freed-many
 
-    pub freed-queue : queue (freed none p st k t) p ≡ drop k (queue t p)
-    freed-queue = spelled-is none freed-pair
+    pub freed-queue : queue (freed (card .none) p st k t) p ≡ drop k (queue t p)
+    freed-queue = spelled-is (card .none) freed-pair
 
-    pub freed-free : free (freed none p st k t) ≡ free t ++ take k (queue t p)
-    freed-free = spelled-is none (free-after p hp st _ _ (t .slots) refl (λ i. refl) (λ i z. refl) freed-share freed-many)
+    pub freed-free : free (freed (card .none) p st k t) ≡ free t ++ take k (queue t p)
+    freed-free = spelled-is (card .none) (free-after p hp st _ _ (t .slots) refl (λ i. refl) (λ i z. refl) freed-share freed-many)
 
     -- a freed slot keeps all but its link
-    pub freed-packet : (i : ℕ) → slotAt (freed none p st k t .slots) i .packet ≡ slotAt (t .slots) i .packet
-    freed-packet i = rw freed-slots (chain-packet none (free t ++ take k (queue t p)) (t .slots) i)
+    pub freed-packet : (i : ℕ) → slotAt (freed (card .none) p st k t .slots) i .packet ≡ slotAt (t .slots) i .packet
+    freed-packet i = rw freed-slots (chain-packet (card .none) (free t ++ take k (queue t p)) (t .slots) i)
 
     -- a run freed in two parts, or slot by slot, is the run freed at once
-    pub freed-again : (st′ : Standing) (j : ℕ) → freed none p st′ j (freed none p st k t) ≡ freed none p st′ (k + j) t
+    pub freed-again : (st′ : Standing) (j : ℕ) → freed (card .none) p st′ j (freed (card .none) p st k t) ≡ freed (card .none) p st′ (k + j) t
     unfolding arranged
-    freed-again st′ j = λ i. record { pairs = pairs-eq i; ends = record { first = firstOf none (list i); last = lastOf none (list i) }; slots = slots-eq i }
+    freed-again st′ j = λ i. record { pairs = pairs-eq i; ends = record { first = firstOf (card .none) (list i); last = lastOf (card .none) (list i) }; slots = slots-eq i }
       where
         after : Tables
-        after = freed none p st k t
+        after = freed (card .none) p st k t
 
         rest : drop j (queue after p) ≡ drop (k + j) (queue t p)
         rest = rw freed-queue (drop-drop j k (queue t p))
@@ -437,46 +439,46 @@ module _ (none pairs slots : ℕ) (t : Tables) (w : Whole none pairs slots t) wh
             rw list₂
             (omega (arith, times-append i (free t) (take (k + j) (queue t p)), times-parts i (k + j) (queue t p), pair-and-free p i))
 
-        pairs-eq : set (after .pairs) p (record { standing = st′; queue = endsOf none (drop j (queue after p)) })
-            ≡ set (t .pairs) p (record { standing = st′; queue = endsOf none (drop (k + j) (queue t p)) })
+        pairs-eq : set (after .pairs) p (record { standing = st′; queue = endsOf (card .none) (drop j (queue after p)) })
+            ≡ set (t .pairs) p (record { standing = st′; queue = endsOf (card .none) (drop (k + j) (queue t p)) })
         pairs-eq = rw rest (set-set (t .pairs) p _ _)
 
-        linked : (i : ℕ) → chain none (drop i (queue t p)) (t .slots) ≡ t .slots
-        linked i = chain-linked none (drop i (queue t p)) (t .slots) (linked-drop none i (t .slots) (queue t p) (w .pairs-run p hp .linked))
+        linked : (i : ℕ) → chain (card .none) (drop i (queue t p)) (t .slots) ≡ t .slots
+        linked i = chain-linked (card .none) (drop i (queue t p)) (t .slots) (linked-drop (card .none) i (t .slots) (queue t p) (w .pairs-run p hp .linked))
 
         -- what p still holds is linked in the slots after, too
-        still : chain none (drop (k + j) (queue t p)) (after .slots) ≡ after .slots
+        still : chain (card .none) (drop (k + j) (queue t p)) (after .slots) ≡ after .slots
         still =
-            chain-linked none (drop (k + j) (queue t p)) (after .slots)
-            (rw (← drop-drop j k (queue t p)) (linked-drop none j (after .slots) (drop k (queue t p)) (freed-pair .linked)))
+            chain-linked (card .none) (drop (k + j) (queue t p)) (after .slots)
+            (rw (← drop-drop j k (queue t p)) (linked-drop (card .none) j (after .slots) (drop k (queue t p)) (freed-pair .linked)))
 
-        slots-eq : chain none (free after ++ take j (queue after p)) (chain none (drop j (queue after p)) (after .slots))
-            ≡ chain none (free t ++ take (k + j) (queue t p)) (chain none (drop (k + j) (queue t p)) (t .slots))
+        slots-eq : chain (card .none) (free after ++ take j (queue after p)) (chain (card .none) (drop j (queue after p)) (after .slots))
+            ≡ chain (card .none) (free t ++ take (k + j) (queue t p)) (chain (card .none) (drop (k + j) (queue t p)) (t .slots))
         slots-eq =
             rw (rest, still, linked (k + j), list₁)
-            (ap (chain none ((free t ++ take k (queue t p)) ++ take j (drop k (queue t p)))) freed-slots
-            ∙ chain-twice none (free t ++ take k (queue t p)) (take j (drop k (queue t p))) (t .slots) distinct
-            ∙ ap (λ (l : List ℕ). chain none l (t .slots)) list₂)
+            (ap (chain (card .none) ((free t ++ take k (queue t p)) ++ take j (drop k (queue t p)))) freed-slots
+            ∙ chain-twice (card .none) (free t ++ take k (queue t p)) (take j (drop k (queue t p))) (t .slots) distinct
+            ∙ ap (λ (l : List ℕ). chain (card .none) l (t .slots)) list₂)
 
   -- no slot leaves: only the pair's record is written
-  pub freed-none : (p : ℕ) → p < pairs → (st : Standing)
-      → freed none p st 0 t ≡ record { pairs = set (t .pairs) p (record { standing = st; queue = pairAt (t .pairs) p .queue }); ends = t .ends; slots = t .slots }
+  pub freed-none : (p : ℕ) → p < card .pairs → (st : Standing)
+      → freed (card .none) p st 0 t ≡ record { pairs = set (t .pairs) p (record { standing = st; queue = pairAt (t .pairs) p .queue }); ends = t .ends; slots = t .slots }
   unfolding arranged
   freed-none p hp st =
       λ i. record { pairs = set (t .pairs) p (record { standing = st; queue = ends-is (w .pairs-run p hp) i }); ends = tips i; slots = slots-is i }
     where
-      ends-is : {q : Queue} {l : List ℕ} → Spells none (t .slots) q l → endsOf none l ≡ q
+      ends-is : {q : Queue} {l : List ℕ} → Spells (card .none) (t .slots) q l → endsOf (card .none) l ≡ q
       ends-is r = λ i. record { first = sym (r .first) i; last = sym (r .last) i; held = sym (r .held) i }
 
-      tips : record { first = firstOf none (free t ++ []); last = lastOf none (free t ++ []) } ≡ t .ends
+      tips : record { first = firstOf (card .none) (free t ++ []); last = lastOf (card .none) (free t ++ []) } ≡ t .ends
       tips = rw (append-nil (free t)) (λ i. record { first = sym (w .free-runs .first) i; last = sym (w .free-runs .last) i })
 
-      slots-is : chain none (free t ++ []) (chain none (queue t p) (t .slots)) ≡ t .slots
+      slots-is : chain (card .none) (free t ++ []) (chain (card .none) (queue t p) (t .slots)) ≡ t .slots
       slots-is =
-          rw (append-nil (free t), chain-linked none (queue t p) (t .slots) (w .pairs-run p hp .linked))
-          (chain-linked none (free t) (t .slots) (w .free-runs .linked))
+          rw (append-nil (free t), chain-linked (card .none) (queue t p) (t .slots) (w .pairs-run p hp .linked))
+          (chain-linked (card .none) (free t) (t .slots) (w .free-runs .linked))
 
-  module _ (p : ℕ) (hp : p < pairs) (st : Standing) (qs : List Packet) (room : length qs ≤ length (free t)) where
+  module _ (p : ℕ) (hp : p < card .pairs) (st : Standing) (qs : List Packet) (room : length qs ≤ length (free t)) where
     took : List ℕ
     took = take (length qs) (free t)
 
@@ -492,7 +494,7 @@ module _ (none pairs slots : ℕ) (t : Tables) (w : Whole none pairs slots t) wh
     stored-packets : (i : ℕ) → times i (queue t p ++ took) ≡ 0 → slotAt (filled took qs (t .slots)) i .packet ≡ slotAt (t .slots) i .packet
     stored-packets i z = ap (λ (x : Slot). x .packet) (filled-other took qs (t .slots) i (omega (arith, times-append i (queue t p) took)))
 
-    pub stored-side : side (stored none p st qs t) p ≡ record { standing = st; packets = side t p .packets ++ qs }
+    pub stored-side : side (stored (card .none) p st qs t) p ≡ record { standing = st; packets = side t p .packets ++ qs }
     unfolding side sideOf took
     stored-side =
         side-after p hp st _ _ (filled took qs (t .slots)) (length-filled took qs (t .slots)) (filled-link took qs (t .slots)) stored-packets stored-share stored-many
@@ -517,49 +519,49 @@ module _ (none pairs slots : ℕ) (t : Tables) (w : Whole none pairs slots t) wh
         all : map put (queue t p ++ took) ≡ map (λ i. slotAt (t .slots) i .packet) (queue t p) ++ qs
         all = map-append put (queue t p) took ∙ ap₂ (λ (a b : List Packet). a ++ b) old new
 
-    pub stored-others : (r : ℕ) → r < pairs → r ≢ p → side (stored none p st qs t) r ≡ side t r
+    pub stored-others : (r : ℕ) → r < card .pairs → r ≢ p → side (stored (card .none) p st qs t) r ≡ side t r
     unfolding took
     stored-others =
         side-others p hp st _ _ (filled took qs (t .slots)) (length-filled took qs (t .slots)) (filled-link took qs (t .slots)) stored-packets stored-share stored-many
 
-    pub stored-whole : st .state ≡ 1 → Whole none pairs slots (stored none p st qs t)
+    pub stored-whole : st .state ≡ 1 → Whole card (stored (card .none) p st qs t)
     unfolding took
     stored-whole e =
         whole-after p hp st _ _ (filled took qs (t .slots)) (length-filled took qs (t .slots)) (filled-link took qs (t .slots)) stored-packets stored-share stored-many
         (λ n. absurd (n e))
 
     -- the slots come off the free queue's front and join the pair's end
-    pub stored-queue : queue (stored none p st qs t) p ≡ queue t p ++ take (length qs) (free t)
+    pub stored-queue : queue (stored (card .none) p st qs t) p ≡ queue t p ++ take (length qs) (free t)
     unfolding took
     stored-queue =
-        spelled-is none
+        spelled-is (card .none)
         (pair-after p hp st _ _ (filled took qs (t .slots)) (length-filled took qs (t .slots)) (filled-link took qs (t .slots)) stored-packets stored-share stored-many)
 
-    pub stored-free : free (stored none p st qs t) ≡ drop (length qs) (free t)
+    pub stored-free : free (stored (card .none) p st qs t) ≡ drop (length qs) (free t)
     unfolding took
     stored-free =
-        spelled-is none
+        spelled-is (card .none)
         (free-after p hp st _ _ (filled took qs (t .slots)) (length-filled took qs (t .slots)) (filled-link took qs (t .slots)) stored-packets stored-share stored-many)
 
     -- what is written: the packets, and the links of the pair's longer list only
-    linked-put : (l : List ℕ) → Linked none (t .slots) l → Linked none (filled took qs (t .slots)) l
-    linked-put = linked-same none (t .slots) (filled took qs (t .slots)) (filled-link took qs (t .slots))
+    linked-put : (l : List ℕ) → Linked (card .none) (t .slots) l → Linked (card .none) (filled took qs (t .slots)) l
+    linked-put = linked-same (card .none) (t .slots) (filled took qs (t .slots)) (filled-link took qs (t .slots))
 
-    stored-slots : stored none p st qs t .slots ≡ chain none (queue t p ++ took) (filled took qs (t .slots))
+    stored-slots : stored (card .none) p st qs t .slots ≡ chain (card .none) (queue t p ++ took) (filled took qs (t .slots))
     unfolding arranged took
     stored-slots =
-        chain-linked none (drop (length qs) (free t)) (chain none (queue t p ++ took) (filled took qs (t .slots)))
-        (linked-apart none (queue t p ++ took) (filled took qs (t .slots)) (drop (length qs) (free t)) (λ i. omega (arith, stored-share i, pair-and-free p i))
-          (linked-put (drop (length qs) (free t)) (linked-drop none (length qs) (t .slots) (free t) (w .free-runs .linked))))
+        chain-linked (card .none) (drop (length qs) (free t)) (chain (card .none) (queue t p ++ took) (filled took qs (t .slots)))
+        (linked-apart (card .none) (queue t p ++ took) (filled took qs (t .slots)) (drop (length qs) (free t)) (λ i. omega (arith, stored-share i, pair-and-free p i))
+          (linked-put (drop (length qs) (free t)) (linked-drop (card .none) (length qs) (t .slots) (free t) (w .free-runs .linked))))
 
     -- and of those links only two, if the pair holds some: its last leads to the first taken, whose last leads nowhere
     pub stored-writes : (a : ℕ) (f : List ℕ) (b : ℕ) (l : List ℕ) → queue t p ≡ a ∷ f → take (length qs) (free t) ≡ b ∷ l
-        → stored none p st qs t .slots ≡ relinked (pairAt (t .pairs) p .queue .last) b (relinked (lastOf none (b ∷ l)) none (filled (b ∷ l) qs (t .slots)))
+        → stored (card .none) p st qs t .slots ≡ relinked (pairAt (t .pairs) p .queue .last) b (relinked (lastOf (card .none) (b ∷ l)) (card .none) (filled (b ∷ l) qs (t .slots)))
     unfolding took
     stored-writes a f b l eq ek =
         stored-slots
         ∙ rw (w .pairs-run p hp .last, eq, ek)
-          (hang none a f b l (drop (length qs) (free t)) (filled (b ∷ l) qs (t .slots))
+          (hang (card .none) a f b l (drop (length qs) (free t)) (filled (b ∷ l) qs (t .slots))
             (λ i. omega (arith, rw eq at (pair-and-free p i)))
             (λ i. omega (arith, rw eq at (pair-and-free p i), rw ek at (times-parts i (length qs) (free t))))
             (λ i. omega (arith, pair-and-free p i, rw ek at (times-parts i (length qs) (free t))))
@@ -568,11 +570,11 @@ module _ (none pairs slots : ℕ) (t : Tables) (w : Whole none pairs slots t) wh
 
     -- where it holds none, one
     pub stored-writes-empty : (b : ℕ) (l : List ℕ) → queue t p ≡ [] → take (length qs) (free t) ≡ b ∷ l
-        → stored none p st qs t .slots ≡ relinked (lastOf none (b ∷ l)) none (filled (b ∷ l) qs (t .slots))
+        → stored (card .none) p st qs t .slots ≡ relinked (lastOf (card .none) (b ∷ l)) (card .none) (filled (b ∷ l) qs (t .slots))
     unfolding took
     stored-writes-empty b l eq ek =
         stored-slots
         ∙ rw (eq, ek)
-          (chain-front none b l (drop (length qs) (free t)) (filled (b ∷ l) qs (t .slots))
+          (chain-front (card .none) b l (drop (length qs) (free t)) (filled (b ∷ l) qs (t .slots))
             (λ i. omega (arith, pair-and-free p i, rw ek at (times-parts i (length qs) (free t))))
             (rw ek at (linked-put (took ++ drop (length qs) (free t)) (rw (take-append-drop (length qs) (free t)) (w .free-runs .linked)))))

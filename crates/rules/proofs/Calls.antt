@@ -14,18 +14,25 @@ use Rattle.rules.specs.declared.Settings.{Settings}
 use Rattle.rules.specs.declared.Pair.{Pair}
 use Rattle.rules.specs.declared.Answer.the-variants.{Dropped}
 use Rattle.psn.specs.Psn.{plus}
+use Rattle.rules.specs.declared.Reply.the-variants.{Refused, Answered}
+use Rattle.rules.specs.Card.{Card}
 use Rattle.rules.specs.Account.{Side}
-use Rattle.rules.specs.Rules.{Outcome, dropped, inside, release, acknowledge}
+use Rattle.rules.specs.Outcome.{Outcome, dropped}
+use Rattle.rules.specs.Release.{release}
+use Rattle.rules.specs.Acknowledge.{inside, acknowledge}
 use Rattle.rules.specs.Response.{response}
-use Rattle.rules.specs.Slots.{Tables, pairAt, sideOf, side, sides, freed, Whole}
+use Rattle.rules.specs.Slots.{Tables, pairAt, sideOf, side, sides, freed}
+use Rattle.rules.specs.Audit.{Whole, Audit}
+use Rattle.rules.proofs.Decides.{Decides}
+use Rattle.rules.specs.Requests.{Request, opening, posting, emitting, acknowledging, responding, ticking, closing, Call, starting, on, lent}
+use Rattle.rules.specs.Refusals.{sideAt, refusals}
+use Rattle.rules.specs.Calls.{effect, sideAfter, refuse, Step, account, call}
 use Rattle.refusal.specs.Refusals.{Line, _gives_, firstGiven}
-use Rattle.rules.specs.Audit.{Audit, Decides}
-use Rattle.rules.specs.Requests.{Request, opening, posting, emitting, acknowledging, responding, ticking, closing, Call, starting, on, refused, answered, sideAt, refusals, effect, sideAfter, lent, refuse, Step, account}
-use Rattle.rules.specs.Calls.{call}
 use Rattle.rules.proofs.Arranged.{freed-none}
 use Rattle.rules.proofs.Well.{side-same, side-other}
 use Rattle.rules.proofs.Tables.{side-at, well-of}
-use Rattle.rules.proofs.History.{agrees, pair-low, none-refused, refused-inj}
+use Rattle.rules.proofs.Accepted.{accepted}
+use Rattle.rules.proofs.History.{agrees, refused-inj}
 
 -- ---- nothing moves where nothing leaves and the standing stays
 
@@ -37,10 +44,10 @@ same-pair : (ps : List Pair) (p : ℕ) → set ps p (pairAt ps p) ≡ ps
 unfolding pairAt
 same-pair ps p = set-getD ps p _
 
-nothing-moves : (none pairs slots : ℕ) (t : Tables) → Whole none pairs slots t → (p : ℕ) → p < pairs → freed none p (sideAt (sides t) p .standing) 0 t ≡ t
-nothing-moves none pairs slots t w p h =
+nothing-moves : (card : Card) (t : Tables) → Whole card t → (p : ℕ) → p < card .pairs → freed (card .none) p (sideAt (sides t) p .standing) 0 t ≡ t
+nothing-moves card t w p h =
     rw (standing-at t p)
-    (freed-none none pairs slots t w p h (pairAt (t .pairs) p .standing)
+    (freed-none card t w p h (pairAt (t .pairs) p .standing)
     ∙ ap (λ (ps : List Pair). record { pairs = ps; ends = t .ends; slots = t .slots }) (same-pair (t .pairs) p))
 
 never : {A : Type 0} → _≡_ {A = ℕ} 0 1 → A
@@ -68,8 +75,8 @@ drop-response r s =
 
 -- ---- a refusal changes nothing, whatever the tables
 
-module _ (none pairs slots : ℕ) (header : Settings → Packet → List ℕ) (passes : Tables → Bool) (t : Tables) (n : ℕ) where
-  no-refusal : (q : Request) (s : Side) → effect header q s .reply ≢ refused n
+module _ (card : Card) (passes : Tables → Bool) (t : Tables) (n : ℕ) where
+  no-refusal : (q : Request) (s : Side) → effect q s .reply ≢ Refused n
   no-refusal (opening st psn) s e = let z : _≡_ {A = ℕ} 0 1 = cc in omega arith
   no-refusal (posting m) s e = let z : _≡_ {A = ℕ} 0 1 = cc in omega arith
   no-refusal (emitting k b) s e = let z : _≡_ {A = ℕ} 0 1 = cc in omega arith
@@ -78,18 +85,18 @@ module _ (none pairs slots : ℕ) (header : Settings → Packet → List ℕ) (p
   no-refusal (ticking k b) s e = let z : _≡_ {A = ℕ} 0 1 = cc in omega arith
   no-refusal (closing b) s e = let z : _≡_ {A = ℕ} 0 1 = cc in omega arith
 
-  pub unchanged : (p : ℕ) (q : Request) → call none pairs slots header passes (on p q) t .said .reply ≡ refused n
-      → (call none pairs slots header passes (on p q) t .next ≡ t) × (call none pairs slots header passes (on p q) t .said .buffer ≡ lent q)
+  pub unchanged : (p : ℕ) (q : Request) → call card passes (on p q) t .said .reply ≡ Refused n
+      → (call card passes (on p q) t .next ≡ t) × (call card passes (on p q) t .said .buffer ≡ lent q)
   unfolding call
   unchanged p q =
-      by-test (eqb (firstGiven (not (passes t) gives 15 ∷ refusals pairs slots q p (sides t))) 0)
+      by-test (eqb (firstGiven (not (passes t) gives 15 ∷ refusals card q p (sides t))) 0)
       (λ e. rw e (λ r. absurd (no-refusal q (sideAt (sides t) p) r)))
       (λ e. rw e (λ r. (refl, refl)))
 
-  pub unchanged-start : call none pairs slots header passes starting t .said .reply ≡ refused n → call none pairs slots header passes starting t .next ≡ t
+  pub unchanged-start : call card passes starting t .said .reply ≡ Refused n → call card passes starting t .next ≡ t
   unfolding call
   unchanged-start =
-      by-test (eqb (length (t .pairs)) pairs && eqb (length (t .slots)) slots)
+      by-test (eqb (length (t .pairs)) (card .pairs) && eqb (length (t .slots)) (card .slots))
       (λ e. rw e (λ r. let z : _≡_ {A = ℕ} 0 1 = cc in absurd (omega arith)))
       (λ e. rw e (λ r. refl))
 
@@ -102,91 +109,85 @@ given-low : (ls : List Line) → Low ls → firstGiven ls ≤ 9
 given-low [] h = omega arith
 given-low (l ∷ ls) h = if-case (λ (n : ℕ). n ≤ 9) (l .holds) (λ _. h .0) (λ _. given-low ls (h .1))
 
-low-numbers : (pairs slots p : ℕ) (a : List Side) (q : Request) → Low (refusals pairs slots q p a)
-low-numbers pairs slots p a (opening st psn) = omega arith
-low-numbers pairs slots p a (posting m) = omega arith
-low-numbers pairs slots p a (emitting n b) = omega arith
-low-numbers pairs slots p a (acknowledging r y b) = omega arith
-low-numbers pairs slots p a (responding r o l b) = omega arith
-low-numbers pairs slots p a (ticking e b) = omega arith
-low-numbers pairs slots p a (closing b) = omega arith
+low-numbers : (card : Card) (p : ℕ) (a : List Side) (q : Request) → Low (refusals card q p a)
+low-numbers card p a q = omega arith
 
 -- any two tests that decide the audit give the same: a call is fixed
-pub one-test : (none pairs slots : ℕ) (f g : Tables → Bool) → Decides none pairs slots f → Decides none pairs slots g → (t : Tables) → f t ≡ g t
-one-test none pairs slots f g a b t =
+pub one-test : (card : Card) (f g : Tables → Bool) → Decides card f → Decides card g → (t : Tables) → f t ≡ g t
+one-test card f g a b t =
     by-test (f t)
     (λ e. e ∙ sym (b .complete t (a .sound t e)))
     (λ e. by-test (g t) (λ h. a .complete t (b .sound t h) ∙ sym h) (λ h. e ∙ sym h))
 
-module _ (none pairs slots : ℕ) (header : Settings → Packet → List ℕ) (passes : Tables → Bool) where
+module _ (card : Card) (passes : Tables → Bool) where
   -- 15 comes first, and leaves all as it is
-  pub unaudited : (t : Tables) (p : ℕ) (q : Request) → passes t ≡ false → call none pairs slots header passes (on p q) t ≡ refuse 15 (lent q) t
+  pub unaudited : (t : Tables) (p : ℕ) (q : Request) → passes t ≡ false → call card passes (on p q) t ≡ refuse 15 (lent q) t
   unfolding call
   unaudited t p q e = rw e
 
-  module _ (test : Decides none pairs slots passes) (t : Tables) (p : ℕ) where
+  module _ (test : Decides card passes) (t : Tables) (p : ℕ) where
     -- a dropped event changes nothing
-    pub dropped-acknowledge : (r y : ℕ) (b : List ℕ) (k j : ℕ) → call none pairs slots header passes (on p (acknowledging r y b)) t .said .reply ≡ answered Dropped k j
-        → (call none pairs slots header passes (on p (acknowledging r y b)) t .next ≡ t) × (call none pairs slots header passes (on p (acknowledging r y b)) t .said .buffer ≡ b)
+    pub dropped-acknowledge : (r y : ℕ) (b : List ℕ) (k j : ℕ) → call card passes (on p (acknowledging r y b)) t .said .reply ≡ Answered Dropped k j
+        → (call card passes (on p (acknowledging r y b)) t .next ≡ t) × (call card passes (on p (acknowledging r y b)) t .said .buffer ≡ b)
     unfolding call
     dropped-acknowledge r y b k j =
         by-test (passes t)
-        (λ e. rw e (by-test (eqb (firstGiven (refusals pairs slots (acknowledging r y b) p (sides t))) 0)
+        (λ e. rw e (by-test (eqb (firstGiven (refusals card (acknowledging r y b) p (sides t))) 0)
           (λ z. rw z (λ d.
-            let h = pair-low pairs slots p (sides t) (acknowledging r y b) (none-refused pairs slots p (sides t) (acknowledging r y b) z) in
-            rw (drop-acknowledge r y (sideAt (sides t) p) (cc)) (nothing-moves none pairs slots t (test .sound t e .whole) p h, refl)))
+            let h = accepted card (acknowledging r y b) p (sides t) z .pair in
+            rw (drop-acknowledge r y (sideAt (sides t) p) (cc)) (nothing-moves card t (test .sound t e .whole) p h, refl)))
           (λ z. rw z (λ d. (refl, refl)))))
         (λ e. rw e (λ d. (refl, refl)))
 
-    pub dropped-response : (r o l : ℕ) (b : List ℕ) (k j : ℕ) → call none pairs slots header passes (on p (responding r o l b)) t .said .reply ≡ answered Dropped k j
-        → (call none pairs slots header passes (on p (responding r o l b)) t .next ≡ t) × (call none pairs slots header passes (on p (responding r o l b)) t .said .buffer ≡ b)
+    pub dropped-response : (r o l : ℕ) (b : List ℕ) (k j : ℕ) → call card passes (on p (responding r o l b)) t .said .reply ≡ Answered Dropped k j
+        → (call card passes (on p (responding r o l b)) t .next ≡ t) × (call card passes (on p (responding r o l b)) t .said .buffer ≡ b)
     unfolding call
     dropped-response r o l b k j =
         by-test (passes t)
-        (λ e. rw e (by-test (eqb (firstGiven (refusals pairs slots (responding r o l b) p (sides t))) 0)
+        (λ e. rw e (by-test (eqb (firstGiven (refusals card (responding r o l b) p (sides t))) 0)
           (λ z. rw z (λ d.
-            let h = pair-low pairs slots p (sides t) (responding r o l b) (none-refused pairs slots p (sides t) (responding r o l b) z) in
-            rw (drop-response r (sideAt (sides t) p) (cc)) (nothing-moves none pairs slots t (test .sound t e .whole) p h, refl)))
+            let h = accepted card (responding r o l b) p (sides t) z .pair in
+            rw (drop-response r (sideAt (sides t) p) (cc)) (nothing-moves card t (test .sound t e .whole) p h, refl)))
           (λ z. rw z (λ d. (refl, refl)))))
         (λ e. rw e (λ d. (refl, refl)))
 
   -- ---- from audited tables: audited after, the called pair by its rule, the others as they were
 
-  module _ (test : Decides none pairs slots passes) (t : Tables) (a : Audit none pairs slots t) where
-    pub stays-audited : (c : Call) → Audit none pairs slots (call none pairs slots header passes c t .next)
-    stays-audited c = agrees none pairs slots header passes test c t a .audit
+  module _ (test : Decides card passes) (t : Tables) (a : Audit card t) where
+    pub stays-audited : (c : Call) → Audit card (call card passes c t .next)
+    stays-audited c = agrees card passes test c t a .audit
 
-    others-account : (p : ℕ) (q : Request) (r : ℕ) → r ≢ p → sideAt (account pairs slots header (on p q) (sides t) .next) r ≡ sideAt (sides t) r
+    others-account : (p : ℕ) (q : Request) (r : ℕ) → r ≢ p → sideAt (account card (on p q) (sides t) .next) r ≡ sideAt (sides t) r
     unfolding account
     others-account p q r d =
-        if-case (λ (s : Step (List Side)). sideAt (s .next) r ≡ sideAt (sides t) r) (eqb (firstGiven (refusals pairs slots q p (sides t))) 0)
+        if-case (λ (s : Step (List Side)). sideAt (s .next) r ≡ sideAt (sides t) r) (eqb (firstGiven (refusals card q p (sides t))) 0)
         (λ _. side-other (sides t) p r _ d) (λ _. refl)
 
-    pub others : (p : ℕ) (q : Request) (r : ℕ) → r ≢ p → side (call none pairs slots header passes (on p q) t .next) r ≡ side t r
+    pub others : (p : ℕ) (q : Request) (r : ℕ) → r ≢ p → side (call card passes (on p q) t .next) r ≡ side t r
     others p q r d =
-        sym (side-at (call none pairs slots header passes (on p q) t .next) r)
-        ∙ ap (λ (l : List Side). sideAt l r) (agrees none pairs slots header passes test (on p q) t a .same)
+        sym (side-at (call card passes (on p q) t .next) r)
+        ∙ ap (λ (l : List Side). sideAt l r) (agrees card passes test (on p q) t a .same)
         ∙ others-account p q r d
         ∙ side-at t r
 
-    called-account : (p : ℕ) (q : Request) → p < pairs → firstGiven (refusals pairs slots q p (sides t)) ≡ 0
-        → sideAt (account pairs slots header (on p q) (sides t) .next) p ≡ sideAfter (effect header q (sideAt (sides t) p)) (sideAt (sides t) p)
+    called-account : (p : ℕ) (q : Request) → p < card .pairs → firstGiven (refusals card q p (sides t)) ≡ 0
+        → sideAt (account card (on p q) (sides t) .next) p ≡ sideAfter (effect q (sideAt (sides t) p)) (sideAt (sides t) p)
     unfolding account
-    called-account p q h e = rw e (side-same (sides t) p _ (omega (arith, well-of none pairs slots t a .count)))
+    called-account p q h e = rw e (side-same (sides t) p _ (omega (arith, well-of card t a .count)))
 
-    pub called : (p : ℕ) (q : Request) → p < pairs → firstGiven (refusals pairs slots q p (sides t)) ≡ 0
-        → side (call none pairs slots header passes (on p q) t .next) p ≡ sideAfter (effect header q (side t p)) (side t p)
+    pub called : (p : ℕ) (q : Request) → p < card .pairs → firstGiven (refusals card q p (sides t)) ≡ 0
+        → side (call card passes (on p q) t .next) p ≡ sideAfter (effect q (side t p)) (side t p)
     called p q h e =
-        sym (side-at (call none pairs slots header passes (on p q) t .next) p)
-        ∙ ap (λ (l : List Side). sideAt l p) (agrees none pairs slots header passes test (on p q) t a .same)
+        sym (side-at (call card passes (on p q) t .next) p)
+        ∙ ap (λ (l : List Side). sideAt l p) (agrees card passes test (on p q) t a .same)
         ∙ called-account p q h e
-        ∙ ap (λ (s : Side). sideAfter (effect header q s) s) (side-at t p)
+        ∙ ap (λ (s : Side). sideAfter (effect q s) s) (side-at t p)
 
     -- 15 is never given: refusals are 1 to 9
-    pub numbers : (p : ℕ) (q : Request) (n : ℕ) → call none pairs slots header passes (on p q) t .said .reply ≡ refused n → n ≤ 9
+    pub numbers : (p : ℕ) (q : Request) (n : ℕ) → call card passes (on p q) t .said .reply ≡ Refused n → n ≤ 9
     unfolding call
     numbers p q n =
         rw (test .complete t a)
-        (by-test (eqb (firstGiven (refusals pairs slots q p (sides t))) 0)
-          (λ e. rw e (λ r. absurd (no-refusal none pairs slots header passes t n q (sideAt (sides t) p) r)))
-          (λ e. rw e (λ r. omega (arith, given-low (refusals pairs slots q p (sides t)) (low-numbers pairs slots p (sides t) q), refused-inj r))))
+        (by-test (eqb (firstGiven (refusals card q p (sides t))) 0)
+          (λ e. rw e (λ r. absurd (no-refusal card passes t n q (sideAt (sides t) p) r)))
+          (λ e. rw e (λ r. omega (arith, given-low (refusals card q p (sides t)) (low-numbers card p (sides t) q), refused-inj r))))

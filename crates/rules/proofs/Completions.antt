@@ -8,12 +8,15 @@ use lib.Seq.{take-add, take-at}
 use Rattle.refusal.proofs.Cases.{by-test, if-case}
 use Rattle.rules.specs.declared.Packet.{Packet}
 use Rattle.rules.specs.declared.Settings.{Settings}
-use Rattle.rules.specs.Account.{Side, isLast, completions}
-use Rattle.rules.specs.Rules.{Outcome, acknowledge}
+use Rattle.rules.specs.Account.{Side}
+use Rattle.rules.specs.Message.{isLast}
+use Rattle.rules.specs.Outcome.{completions, Outcome, messagesOf, completed, closure}
+use Rattle.rules.specs.Acknowledge.{acknowledge}
 use Rattle.rules.specs.Response.{response}
 use Rattle.rules.specs.Timer.{timer}
-use Rattle.rules.specs.Requests.{Request, opening, posting, emitting, acknowledging, responding, ticking, closing, written, messagesOf, completed, closed, effect}
-use Rattle.rules.specs.History.{ticketsOf, reads, lasts, gone}
+use Rattle.rules.specs.Requests.{Request, opening, posting, emitting, acknowledging, responding, ticking, closing}
+use Rattle.rules.specs.Calls.{written, effect}
+use Rattle.rules.specs.History.{ticketsOf, reads, lasts, releases}
 
 length-completions : (status : ℕ) (ps : List Packet) → length (completions status ps) ≡ 2 * messagesOf ps
 length-completions status [] = refl
@@ -70,12 +73,12 @@ told-tickets : (o : Outcome) (s : Side) (b : List ℕ)
     → ticketsOf (take (2 * messagesOf (take (o .released + o .flushed) (s .packets))) (written (completed o s) b)) ≡ lasts (take (o .released + o .flushed) (s .packets))
 told-tickets o s b = rw (take-at (completed o s) (drop (length (completed o s)) b) _ (length-completed o s)) (tickets-completed o s)
 
-pub reads-gone : (header : Settings → Packet → List ℕ) (q : Request) (s : Side)
-    → reads (effect header q s .reply) (effect header q s .buffer) ≡ lasts (gone (effect header q s .move) (s .packets))
-reads-gone header (opening st psn) s = refl
-reads-gone header (posting m) s = refl
-reads-gone header (emitting n b) s = refl
-reads-gone header (acknowledging r y b) s = told-tickets (acknowledge r y s) s b
-reads-gone header (responding r o l b) s = told-tickets (response r s) s b
-reads-gone header (ticking e b) s = told-tickets (timer e s) s b
-reads-gone header (closing b) s = told-tickets (closed s) s b
+pub reads-gone : (q : Request) (s : Side)
+    → reads (effect q s .reply) (effect q s .buffer) ≡ lasts (releases (effect q s .move) (s .packets))
+reads-gone (opening st psn) s = refl
+reads-gone (posting m) s = refl
+reads-gone (emitting n b) s = refl
+reads-gone (acknowledging r y b) s = told-tickets (acknowledge r y s) s b
+reads-gone (responding r o l b) s = told-tickets (response r s) s b
+reads-gone (ticking e b) s = told-tickets (timer e s) s b
+reads-gone (closing b) s = told-tickets (closure s) s b

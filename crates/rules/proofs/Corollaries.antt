@@ -9,31 +9,38 @@ use native.Mathlib.Nat.{not-suc-le-zero, add-zero}
 use lib.Dec.{eqb, ltb, leb}
 use borrow.Author.Tests.{ltb-true, ltb-false, lt-ltb, leb-false, eqb-true, eqb-false, not-false}
 use lib.ListN.{take, drop}
-use Rattle.refusal.proofs.Cases.{by-test, if-case}
+use Rattle.refusal.proofs.Cases.{by-test, if-case, or-left}
 use Rattle.rules.specs.declared.Packet.{Packet}
 use Rattle.rules.specs.declared.Settings.{Settings}
 use Rattle.rules.specs.declared.Standing.{Standing}
 use Rattle.rules.specs.declared.Answer.{Answer}
 use Rattle.rules.specs.declared.Answer.the-variants.{Done, Ended}
 use Rattle.psn.specs.Psn.{psns, distance, plus, before}
-use Rattle.rules.specs.Account.{Side, U, H, N, ahead, isRead, span}
-use Rattle.rules.specs.Rules.{release, unanswered, passedBy, Outcome, inside, acknowledge}
+use Rattle.rules.specs.declared.Reply.the-variants.{Answered}
+use Rattle.rules.specs.Card.{Card}
+use Rattle.rules.specs.Account.{Side, U, H, N, ahead}
+use Rattle.rules.specs.Message.{isRead, span}
+use Rattle.rules.specs.Outcome.{Outcome}
+use Rattle.rules.specs.Release.{release, unanswered, passedBy}
+use Rattle.rules.specs.Acknowledge.{inside, acknowledge}
+use Rattle.rules.specs.Ranges.{badPsn}
 use Rattle.rules.specs.Slots.{Tables, slotAt, free, queue, times, sideOf, side, sides, freed}
-use Rattle.rules.specs.Order.{_or_, left, right, Runs, Ordered}
-use Rattle.refusal.specs.Refusals.{firstGiven}
-use Rattle.rules.specs.Audit.{Audit, Decides, Each}
-use Rattle.rules.specs.Requests.{acknowledging, on, answered, sideAt, refusals}
+use Rattle.rules.specs.Order.{_or_, left, right}
+use Rattle.rules.proofs.InOrder.{RunsLow, InOrder, audited-order}
+use Rattle.rules.specs.Audit.{Audit, Each}
+use Rattle.rules.proofs.Decides.{Decides}
+use Rattle.rules.specs.Requests.{acknowledging, on}
+use Rattle.rules.specs.Refusals.{sideAt, refusals}
 use Rattle.rules.specs.Calls.{call}
+use Rattle.refusal.specs.Refusals.{firstGiven}
 use Rattle.psn.proofs.Laws.{distance-step, distance-same}
 use Rattle.rules.proofs.Links.{times-append, times-parts, times-other}
 use Rattle.rules.proofs.Arranged.{map-drop, freed-free, freed-queue, freed-side, pair-and-free}
 use Rattle.rules.proofs.Order.{all-before, whole-or-part, Part}
 use Rattle.rules.proofs.Scan.{released-is}
 use Rattle.rules.proofs.Response.{Clear, clear}
-use Rattle.rules.proofs.Sound.{or-false}
-use Rattle.rules.proofs.Well.{is-ready}
+use Rattle.rules.proofs.Accepted.{accepted, is-ready}
 use Rattle.rules.proofs.Tables.{side-at}
-use Rattle.rules.proofs.History.{pair-low, none-refused}
 
 -- ---- on the account
 
@@ -41,7 +48,7 @@ use Rattle.rules.proofs.History.{pair-low, none-refused}
 abbrev pub Behind : ℕ → ℕ → Packet → Type 0
 Behind u r q = distance u r < distance u (q .psn)
 
-runs-behind : (size : Packet → ℕ) (u r o : ℕ) (ps : List Packet) (n : ℕ) → Runs size u o ps n → distance u r < o → Each (Behind u r) ps
+runs-behind : (size : Packet → ℕ) (u r o : ℕ) (ps : List Packet) (n : ℕ) → RunsLow size u o ps n → distance u r < o → Each (Behind u r) ps
 runs-behind size u r o [] n h l = tt
 runs-behind size u r o (p ∷ ps) n h l = (omega (arith, h .1), runs-behind size u r (o + size p) ps n (h .2) (omega arith))
 
@@ -70,7 +77,7 @@ clean r y s =
     never z = absurd (omega arith)
 
 -- nothing is left at or before R
-left-behind : (s : Side) → Ordered s → (r : ℕ) → r < psns → inside r s ≡ true → release (plus r 1) s .stopped ≡ false
+left-behind : (s : Side) → InOrder s → (r : ℕ) → r < psns → inside r s ≡ true → release (plus r 1) s .stopped ≡ false
     → Each (Behind (U s) r) (drop (release (plus r 1) s .released) (s .packets))
 left-behind s o r low h e = go (whole-or-part (s .standing .settings) (U s) (N s) (o .u-low) (s .packets) (o .starts))
   where
@@ -83,7 +90,7 @@ left-behind s o r low h e = go (whole-or-part (s .standing .settings) (U s) (N s
     next : distance (U s) (plus r 1) ≡ distance (U s) r + 1
     next = distance-step (U s) r 1 (omega (arith, lt, o .u-h-n, o .near))
 
-    go : Runs (span (s .standing .settings)) (U s) 0 (s .packets) (N s) or Part (s .standing .settings) (U s) (s .packets)
+    go : RunsLow (span (s .standing .settings)) (U s) 0 (s .packets) (N s) or Part (s .standing .settings) (U s) (s .packets)
         → Each (Behind (U s) r) (drop (release (plus r 1) s .released) (s .packets))
     go (left run) =
         rw (c .released)
@@ -103,9 +110,9 @@ left-behind s o r low h e = go (whole-or-part (s .standing .settings) (U s) (N s
 taken : (f : Packet → Bool) (ps : List Packet) → Each (λ p. isRead p ≡ false) (take (ahead (λ p. isRead p || f p) ps) ps)
 taken f [] = tt
 taken f (p ∷ ps) =
-    if-case (λ (k : ℕ). Each (λ q. isRead q ≡ false) (take k (p ∷ ps))) (isRead p || f p) (λ _. tt) (λ e. (or-false (isRead p) (f p) e .0, taken f ps))
+    if-case (λ (k : ℕ). Each (λ q. isRead q ≡ false) (take k (p ∷ ps))) (isRead p || f p) (λ _. tt) (λ e. (or-left (isRead p) (f p) e, taken f ps))
 
-pub no-read-released : (s : Side) → Ordered s → (b : ℕ) → Each (λ p. isRead p ≡ false) (take (release b s .released) (s .packets))
+pub no-read-released : (s : Side) → InOrder s → (b : ℕ) → Each (λ p. isRead p ≡ false) (take (release b s .released) (s .packets))
 no-read-released s o b = rw (released-is s o b) (taken (λ p. not (before (U s) (p .psn) b)) (s .packets))
 
 -- ---- on the tables
@@ -122,53 +129,53 @@ unfolding side sideOf
 side-drop t p k = sym (map-drop (λ j. slotAt (t .slots) j .packet) k (queue t p))
 
 -- what a call that says "done" was: audited, not refused, and a release that did not stop
-record Taken (none pairs slots : ℕ) (t n : Tables) (p r : ℕ) : Type 0 where
-  audit : Audit none pairs slots t
-  low : p < pairs
+record Taken (card : Card) (t n : Tables) (p r : ℕ) : Type 0 where
+  audit : Audit card t
+  low : p < card .pairs
   ready : side t p .standing .state ≡ 1
   psn : r < psns
   within : inside r (side t p) ≡ true
   clear : release (plus r 1) (side t p) .stopped ≡ false
-  next : (standing : Standing) × (n ≡ freed none p standing (release (plus r 1) (side t p) .released) t)
+  next : (standing : Standing) × (n ≡ freed (card .none) p standing (release (plus r 1) (side t p) .released) t)
 
-module _ (none pairs slots : ℕ) (header : Settings → Packet → List ℕ) (passes : Tables → Bool) (test : Decides none pairs slots passes)
+module _ (card : Card) (passes : Tables → Bool) (test : Decides card passes)
     (t : Tables) (p r y : ℕ) (b : List ℕ) (messages place : ℕ) where
 
   gone : Clean r (side t p) (acknowledge r y (side t p))
       → acknowledge r y (sideAt (sides t) p) .released + acknowledge r y (sideAt (sides t) p) .flushed ≡ release (plus r 1) (side t p) .released
   gone c = rw (side-at t p) (omega (arith, c .released, c .flushed))
 
-  was-taken : call none pairs slots header passes (on p (acknowledging r y b)) t .said .reply ≡ answered Done messages place
-      → Taken none pairs slots t (call none pairs slots header passes (on p (acknowledging r y b)) t .next) p r
+  was-taken : call card passes (on p (acknowledging r y b)) t .said .reply ≡ Answered Done messages place
+      → Taken card t (call card passes (on p (acknowledging r y b)) t .next) p r
   unfolding call
   was-taken =
       by-test (passes t)
-      (λ e. rw e (by-test (eqb (firstGiven (refusals pairs slots (acknowledging r y b) p (sides t))) 0)
+      (λ e. rw e (by-test (eqb (firstGiven (refusals card (acknowledging r y b) p (sides t))) 0)
         (λ q. rw q (λ d.
-          let h = none-refused pairs slots p (sides t) (acknowledging r y b) q in
+          let h = accepted card (acknowledging r y b) p (sides t) q in
           let c = rw (side-at t p) at (clean r y (sideAt (sides t) p) (cc)) in
           record {
             audit = test .sound t e;
-            low = pair-low pairs slots p (sides t) (acknowledging r y b) h;
-            ready = rw (side-at t p) at (is-ready {x = sideAt (sides t) p .standing .state} (h .1 .0));
-            psn = leb-false psns r (or-false _ _ (h .1 .1 .0) .0);
+            low = h .pair;
+            ready = rw (side-at t p) at (is-ready {x = sideAt (sides t) p .standing .state} (h .state));
+            psn = leb-false psns r (or-left (badPsn r) _ (h .range));
             within = c .within;
             clear = c .clear;
-            next = (acknowledge r y (sideAt (sides t) p) .standing, ap (λ (k : ℕ). freed none p (acknowledge r y (sideAt (sides t) p) .standing) k t) (gone c)) }))
+            next = (acknowledge r y (sideAt (sides t) p) .standing, ap (λ (k : ℕ). freed (card .none) p (acknowledge r y (sideAt (sides t) p) .standing) k t) (gone c)) }))
         (λ q. rw q (λ d. let z : _≡_ {A = ℕ} 0 1 = cc in absurd (omega arith)))))
       (λ e. rw e (λ d. let z : _≡_ {A = ℕ} 0 1 = cc in absurd (omega arith)))
 
-  module _ (done : call none pairs slots header passes (on p (acknowledging r y b)) t .said .reply ≡ answered Done messages place) where
+  module _ (done : call card passes (on p (acknowledging r y b)) t .said .reply ≡ Answered Done messages place) where
     -- no packet that the pair then holds is at or before R, as seen from the U that the call found
-    pub none-at-or-before : Each (Behind (U (side t p)) r) (side (call none pairs slots header passes (on p (acknowledging r y b)) t .next) p .packets)
+    pub none-at-or-before : Each (Behind (U (side t p)) r) (side (call card passes (on p (acknowledging r y b)) t .next) p .packets)
     none-at-or-before =
         let w = was-taken done in
-        rw (w .next .1, freed-side none pairs slots t (w .audit .whole) p (w .low) (w .next .0) (release (plus r 1) (side t p) .released))
-        (left-behind (side t p) (w .audit .ordered p (w .low) (w .ready)) r (w .psn) (w .within) (w .clear))
+        rw (w .next .1, freed-side card t (w .audit .whole) p (w .low) (w .next .0) (release (plus r 1) (side t p) .released))
+        (left-behind (side t p) (audited-order (w .audit) p (w .low) (w .ready)) r (w .psn) (w .within) (w .clear))
 
     -- and the slots of those that were are free
     pub slots-free : (i : ℕ) → 1 ≤ times i (queue t p) → distance (U (side t p)) (slotAt (t .slots) i .packet .psn) ≤ distance (U (side t p)) r
-        → times i (free (call none pairs slots header passes (on p (acknowledging r y b)) t .next)) ≡ 1
+        → times i (free (call card passes (on p (acknowledging r y b)) t .next)) ≡ 1
     slots-free i m l =
         let w = was-taken done in
         let k = release (plus r 1) (side t p) .released in
@@ -178,19 +185,19 @@ module _ (none pairs slots : ℕ) (header : Settings → Packet → List ℕ) (p
             absurd (omega (arith,
               each-in (Behind (U (side t p)) r) (λ j. slotAt (t .slots) j .packet) i (drop k (queue t p))
                 (subst (Each (Behind (U (side t p)) r)) (side-drop t p k)
-                  (left-behind (side t p) (w .audit .ordered p (w .low) (w .ready)) r (w .psn) (w .within) (w .clear)))
+                  (left-behind (side t p) (audited-order (w .audit) p (w .low) (w .ready)) r (w .psn) (w .within) (w .clear)))
                 (ltb-true 0 (times i (drop k (queue t p))) e))))
           (λ e. omega (arith, ltb-false)) in
         ap (λ (n : Tables). times i (free n)) (w .next .1)
-        ∙ ap (times i) (freed-free none pairs slots t (w .audit .whole) p (w .low) (w .next .0) k)
-        ∙ omega (arith, times-append i (free t) (take k (queue t p)), times-parts i k (queue t p), pair-and-free none pairs slots t (w .audit .whole) p i)
+        ∙ ap (times i) (freed-free card t (w .audit .whole) p (w .low) (w .next .0) k)
+        ∙ omega (arith, times-append i (free t) (take k (queue t p)), times-parts i k (queue t p), pair-and-free card t (w .audit .whole) p i)
 
 -- ---- no acknowledgement frees a read, unless it ends the pair
 
 abbrev pub NoRead : List Packet → Type 0
 NoRead ps = Each (λ p. isRead p ≡ false) ps
 
-gentle : (r y : ℕ) (s : Side) → Ordered s → acknowledge r y s .answer ≢ Ended
+gentle : (r y : ℕ) (s : Side) → InOrder s → acknowledge r y s .answer ≢ Ended
     → NoRead (take (acknowledge r y s .released + acknowledge r y s .flushed) (s .packets))
 unfolding acknowledge
 gentle r y s o =
@@ -216,40 +223,40 @@ side-take t p k = map-take (λ j. slotAt (t .slots) j .packet) k (queue t p)
     map-take f (suc k) [] = refl
     map-take f (suc k) (x ∷ l) = ap (λ (m : List Packet). f x ∷ m) (map-take f k l)
 
-keeps-read : (none pairs slots : ℕ) (t : Tables) → Audit none pairs slots t → (p : ℕ) → p < pairs → side t p .standing .state ≡ 1 → (r y i : ℕ)
+keeps-read : (card : Card) (t : Tables) → Audit card t → (p : ℕ) → p < card .pairs → side t p .standing .state ≡ 1 → (r y i : ℕ)
     → 1 ≤ times i (queue t p) → isRead (slotAt (t .slots) i .packet) ≡ true → acknowledge r y (side t p) .answer ≢ Ended
     → times i (drop (acknowledge r y (side t p) .released + acknowledge r y (side t p) .flushed) (queue t p)) ≡ 1
-keeps-read none pairs slots t a p low ready r y i m read n =
+keeps-read card t a p low ready r y i m read n =
     let k = acknowledge r y (side t p) .released + acknowledge r y (side t p) .flushed in
     let gone : times i (take k (queue t p)) ≡ 0 =
       by-test (ltb 0 (times i (take k (queue t p))))
       (λ e.
         absurd (true≢false (sym read
           ∙ each-in (λ q. isRead q ≡ false) (λ j. slotAt (t .slots) j .packet) i (take k (queue t p))
-            (subst NoRead (side-take t p k) (gentle r y (side t p) (a .ordered p low ready) n))
+            (subst NoRead (side-take t p k) (gentle r y (side t p) (audited-order a p low ready) n))
             (ltb-true 0 (times i (take k (queue t p))) e))))
       (λ e. omega (arith, ltb-false)) in
-    omega (arith, times-parts i k (queue t p), pair-and-free none pairs slots t (a .whole) p i)
+    omega (arith, times-parts i k (queue t p), pair-and-free card t (a .whole) p i)
 
-module _ (none pairs slots : ℕ) (header : Settings → Packet → List ℕ) (passes : Tables → Bool) (test : Decides none pairs slots passes)
+module _ (card : Card) (passes : Tables → Bool) (test : Decides card passes)
     (t : Tables) (p r y : ℕ) (b : List ℕ) (answer : Answer) (messages place : ℕ) where
   -- a slot that holds a read stays in its pair's queue
-  pub read-stays : call none pairs slots header passes (on p (acknowledging r y b)) t .said .reply ≡ answered answer messages place → answer ≢ Ended
+  pub read-stays : call card passes (on p (acknowledging r y b)) t .said .reply ≡ Answered answer messages place → answer ≢ Ended
       → (i : ℕ) → 1 ≤ times i (queue t p) → isRead (slotAt (t .slots) i .packet) ≡ true
-      → times i (queue (call none pairs slots header passes (on p (acknowledging r y b)) t .next) p) ≡ 1
+      → times i (queue (call card passes (on p (acknowledging r y b)) t .next) p) ≡ 1
   unfolding call
   read-stays =
       by-test (passes t)
-      (λ e. rw e (by-test (eqb (firstGiven (refusals pairs slots (acknowledging r y b) p (sides t))) 0)
+      (λ e. rw e (by-test (eqb (firstGiven (refusals card (acknowledging r y b) p (sides t))) 0)
         (λ q. rw q (λ d n i m read.
-          let h = none-refused pairs slots p (sides t) (acknowledging r y b) q in
-          let low = pair-low pairs slots p (sides t) (acknowledging r y b) h in
+          let h = accepted card (acknowledging r y b) p (sides t) q in
+          let low = h .pair in
           let a = test .sound t e in
-          let ready = rw (side-at t p) at (is-ready {x = sideAt (sides t) p .standing .state} (h .1 .0)) in
+          let ready = rw (side-at t p) at (is-ready {x = sideAt (sides t) p .standing .state} (h .state)) in
           let o = acknowledge r y (sideAt (sides t) p) in
           let k = o .released + o .flushed in
-          ap (times i) (freed-queue none pairs slots t (a .whole) p low (o .standing) k)
+          ap (times i) (freed-queue card t (a .whole) p low (o .standing) k)
           ∙ subst (λ (s : Side). acknowledge r y s .answer ≢ Ended → times i (drop (acknowledge r y s .released + acknowledge r y s .flushed) (queue t p)) ≡ 1)
-              (sym (side-at t p)) (keeps-read none pairs slots t a p low ready r y i m read) (λ z. n (cc))))
+              (sym (side-at t p)) (keeps-read card t a p low ready r y i m read) (λ z. n (cc))))
         (λ q. rw q (λ d. let z : _≡_ {A = ℕ} 0 1 = cc in absurd (omega arith)))))
       (λ e. rw e (λ d. let z : _≡_ {A = ℕ} 0 1 = cc in absurd (omega arith)))

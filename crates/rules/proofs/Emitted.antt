@@ -10,16 +10,18 @@ use Rattle.refusal.proofs.Cases.{if-case}
 use Rattle.rules.specs.declared.Packet.{Packet}
 use Rattle.rules.specs.declared.Settings.{Settings}
 use Rattle.psn.specs.Psn.{psns, half, distance, before}
-use Rattle.rules.specs.Account.{Side, U, X, H, N, ahead, span}
-use Rattle.rules.specs.Rules.{further}
+use Rattle.rules.specs.Account.{Side, U, X, H, N, ahead}
+use Rattle.rules.specs.Message.{span}
+use Rattle.rules.specs.Release.{further}
 use Rattle.rules.specs.Emission.{ends, waiting, going, endsAt, emitted}
-use Rattle.rules.specs.Order.{_or_, left, right, Runs, Starts, Past, Start, Ordered}
+use Rattle.rules.specs.Order.{_or_, left, right, Past, Start}
+use Rattle.rules.proofs.InOrder.{RunsLow, StartsLow, InOrder}
 use Rattle.psn.proofs.Laws.{distance-is, distance-step, distance-inj}
 use Rattle.rules.proofs.Order.{runs-end}
 
 module _ (s : Settings) (u : ℕ) (u-low : u < psns) (n : ℕ) (n-low : n < psns) (near : distance u n ≤ half) where
   -- y is at the place where a run starts
-  stands-at : (y : ℕ) → y < psns → (o : ℕ) (ps : List Packet) → distance u y ≡ o → Runs (span s) u o ps n → (y ≡ n) or Start y ps
+  stands-at : (y : ℕ) → y < psns → (o : ℕ) (ps : List Packet) → distance u y ≡ o → RunsLow (span s) u o ps n → (y ≡ n) or Start y ps
   stands-at y low o [] e r = left (distance-inj u y n low n-low (e ∙ r))
   stands-at y low o (p ∷ ps) e r = right (left (distance-inj u y (p .psn) low (r .0) (e ∙ sym (r .1))))
 
@@ -30,7 +32,7 @@ module _ (s : Settings) (u : ℕ) (u-low : u < psns) (n : ℕ) (n-low : n < psns
     pub within : distance u y ≤ distance u n
     pub at : (y ≡ n) or Start y ps
 
-  stop : (k x : ℕ) → x < psns → (o : ℕ) (ps : List Packet) → distance u x ≡ o → Runs (span s) u o ps n → Stop o ps (endsAt s x (take k ps))
+  stop : (k x : ℕ) → x < psns → (o : ℕ) (ps : List Packet) → distance u x ≡ o → RunsLow (span s) u o ps n → Stop o ps (endsAt s x (take k ps))
   stop zero x low o ps e r =
       record { low = low; past = omega arith; within = omega (arith, runs-end (span s) u u-low o ps n r); at = stands-at x low o ps e r }
   stop (suc k) x low o [] e r =
@@ -46,7 +48,7 @@ module _ (s : Settings) (u : ℕ) (u-low : u < psns) (n : ℕ) (n-low : n < psns
       later (right q) = right (right q)
 
   -- the record at U: it ends at the place where the next starts
-  pub first-ends : (p : Packet) (ps : List Packet) → Starts (span s) u (p ∷ ps) n → distance u (ends s p) ≡ span s p - distance (p .psn) u
+  pub first-ends : (p : Packet) (ps : List Packet) → StartsLow (span s) u (p ∷ ps) n → distance u (ends s p) ≡ span s p - distance (p .psn) u
   first-ends p ps h =
       omega (arith, h .1, runs-end (span s) u u-low (span s p - distance (p .psn) u) ps n (h .2),
         distance-is (p .psn) u, distance-is u (ends s p), near)
@@ -54,20 +56,20 @@ module _ (s : Settings) (u : ℕ) (u-low : u < psns) (n : ℕ) (n-low : n < psns
   -- behind a record, the run goes on from its end
   abbrev After : List Packet → Type 0
   After [] = Unit {0}
-  After (p ∷ ps) = Runs (span s) u (distance u (ends s p)) ps n
+  After (p ∷ ps) = RunsLow (span s) u (distance u (ends s p)) ps n
 
-  after-runs : (j o : ℕ) (ps : List Packet) → Runs (span s) u o ps n → After (drop j ps)
+  after-runs : (j o : ℕ) (ps : List Packet) → RunsLow (span s) u o ps n → After (drop j ps)
   after-runs zero o [] r = tt
   after-runs zero o (p ∷ ps) r =
-      subst (λ (d : ℕ). Runs (span s) u d ps n)
+      subst (λ (d : ℕ). RunsLow (span s) u d ps n)
       (omega (arith, r .1, distance-step u (p .psn) (span s p) (omega (arith, r .1, near, runs-end (span s) u u-low (o + span s p) ps n (r .2)))))
       (r .2)
   after-runs (suc j) o [] r = tt
   after-runs (suc j) o (p ∷ ps) r = after-runs j (o + span s p) ps (r .2)
 
-  after-starts : (j : ℕ) (ps : List Packet) → Starts (span s) u ps n → After (drop j ps)
+  after-starts : (j : ℕ) (ps : List Packet) → StartsLow (span s) u ps n → After (drop j ps)
   after-starts zero [] h = tt
-  after-starts zero (p ∷ ps) h = subst (λ (d : ℕ). Runs (span s) u d ps n) (sym (first-ends p ps h)) (h .2)
+  after-starts zero (p ∷ ps) h = subst (λ (d : ℕ). RunsLow (span s) u d ps n) (sym (first-ends p ps h)) (h .2)
   after-starts (suc j) [] h = tt
   after-starts (suc j) (p ∷ ps) h = after-runs j _ ps (h .2)
 
@@ -92,7 +94,7 @@ pub record Moved (s : Side) (y : ℕ) : Type 0 where
   pub within : distance (U s) y ≤ distance (U s) (N s)
   pub at : (y ≡ U s) or (y ≡ N s) or Start y (s .packets)
 
-pub moved : (s : Side) → Ordered s → (k : ℕ) → Moved s (endsAt (s .standing .settings) (X s) (take k (waiting s)))
+pub moved : (s : Side) → InOrder s → (k : ℕ) → Moved s (endsAt (s .standing .settings) (X s) (take k (waiting s)))
 moved s o k = go k (waiting s) (hit after (s .packets)) (after-starts st (U s) (o .u-low) (N s) (o .n-low) (o .near) (ahead after (s .packets)) (s .packets) (o .starts)) (λ y. start-drop y (ahead after (s .packets)) (s .packets))
   where
     st : Settings
@@ -120,16 +122,16 @@ past-up : (size : Packet → ℕ) (u h h′ : ℕ) (ps : List Packet) → distan
 past-up size u h h′ [] l x = tt
 past-up size u h h′ (p ∷ ps) l x = λ e. omega (arith, x e, l)
 
-pub ordered-emitted : (s : Side) → Ordered s → (budget : ℕ) → Ordered (emitted budget s)
+pub ordered-emitted : (s : Side) → InOrder s → (budget : ℕ) → InOrder (emitted budget s)
 unfolding emitted
 ordered-emitted s o budget = with-y _ (moved s o (going budget s))
   where
     with-y : (y : ℕ) → Moved s y
-        → Ordered (record {
+        → InOrder (record {
             standing = record { state = s .standing .state; settings = s .standing .settings; line = record { u = U s; x = y; h = further (U s) (H s) y; n = N s }; clock = s .standing .clock };
             packets = s .packets })
     with-y y c =
-        if-case (λ (h : ℕ). Ordered (record {
+        if-case (λ (h : ℕ). InOrder (record {
             standing = record { state = s .standing .state; settings = s .standing .settings; line = record { u = U s; x = y; h = h; n = N s }; clock = s .standing .clock };
             packets = s .packets }))
         (before (U s) (H s) y)

@@ -18,16 +18,17 @@ use Rattle.rules.specs.declared.Pair.{Pair}
 use Rattle.rules.specs.declared.Slot.{Slot}
 use Rattle.rules.specs.declared.Post.{Post}
 use Rattle.psn.specs.Psn.{distance}
-use Rattle.rules.specs.Account.{isRead, span, pmtu, packetsFor}
-use Rattle.rules.specs.Rules.{unanswered}
-use Rattle.rules.specs.Split.{from, opcodeAt, hasReth, lengthAt, packetAt, packetsOf}
+use Rattle.wire.specs.Opcodes.{hasReth}
+use Rattle.rules.specs.Message.{isRead, span, pmtu, packetsFor, from, opcodeAt, lengthAt, packetAt, packetsOf}
+use Rattle.rules.specs.Release.{unanswered}
 use Rattle.rules.specs.Slots.{Tables, slotAt, pairAt, spelled, sideOf, side}
-use Rattle.rules.specs.Shares.{Claim, claimOf, claims}
+use Rattle.rules.specs.Pool.{Claim, claimOf, claims}
 use Rattle.rules.specs.Order.{_or_, left, right}
-use Rattle.rules.specs.Messages.{Allowed, Messages, no-more, message, Held, none-held, rear}
+use Rattle.rules.specs.Messages.{Allowed, Messages, no-more, message, Remaining, none-left, rear}
 use Rattle.rules.specs.Audit.{Each}
 use Rattle.psn.proofs.Laws.{distance-same}
 use Rattle.rules.proofs.Arranged.{length-follow}
+use Rattle.rules.proofs.Ranges.{Permitted, permitted}
 use Rattle.rules.proofs.Order.{span-pos}
 use Rattle.rules.proofs.Posted.{no-read}
 use Rattle.rules.proofs.Good.{each-append, each-drop}
@@ -78,6 +79,9 @@ each-from P f a zero h = tt
 each-from P f a (suc n) h = (h a (omega arith), each-from P f (suc a) n (λ i l. h i (omega arith)))
 
 module _ (s : Settings) (m : Post) (first : ℕ) (ok : Allowed s m) where
+  ok′ : Permitted s m
+  ok′ = permitted ok
+
   mtu-pos : 1 ≤ pmtu s
   mtu-pos = pow-pos (7 + s .pmtu)
 
@@ -86,23 +90,23 @@ module _ (s : Settings) (m : Post) (first : ℕ) (ok : Allowed s m) where
       record {
         offset = offset (ahead-of (pmtu s) (m .length) i mtu-pos h);
         length = size;
-        total = if-case (λ (x : ℕ). x < 2 ^ 31) (hasReth (opcodeAt m (packetsFor (pmtu s) (m .length)) i)) (λ _. ok .short) (λ _. omega arith);
+        total = if-case (λ (x : ℕ). x < 2 ^ 31) (hasReth (opcodeAt m (packetsFor (pmtu s) (m .length)) i)) (λ _. ok′ .short) (λ _. omega arith);
         reach = λ e. absurd (true≢false (sym e ∙ no-read m (packetsFor (pmtu s) (m .length)) i k));
         far = λ e. absurd (true≢false (sym e ∙ no-read m (packetsFor (pmtu s) (m .length)) i k));
         all = λ e. absurd (true≢false (sym e ∙ no-read m (packetsFor (pmtu s) (m .length)) i k)) }
     where
       offset : (i * pmtu s < m .length) or ((i ≡ 0) × (m .length ≡ 0)) → m .offset + i * pmtu s < 2 ^ 32
-      offset (left x) = omega (arith, ok .fits)
-      offset (right x) = rw (x .0) (omega (arith, ok .offset))
+      offset (left x) = omega (arith, ok′ .fits)
+      offset (right x) = rw (x .0) (omega (arith, ok′ .offset))
 
       size : lengthAt (pmtu s) (m .length) (packetsFor (pmtu s) (m .length)) i < 2 ^ 31
       size =
           if-case (λ (x : ℕ). x < 2 ^ 31) (eqb (suc i) (packetsFor (pmtu s) (m .length)))
-          (λ _. omega (arith, ok .short))
+          (λ _. omega (arith, ok′ .short))
           (λ e. more (ahead-of (pmtu s) (m .length) (suc i) mtu-pos (omega (arith, eqb-false (suc i) (packetsFor (pmtu s) (m .length)) e))))
         where
           more : (suc i * pmtu s < m .length) or ((suc i ≡ 0) × (m .length ≡ 0)) → pmtu s < 2 ^ 31
-          more (left x) = omega (arith, ok .short)
+          more (left x) = omega (arith, ok′ .short)
           more (right x) = absurd (omega (arith, x .0))
 
   pub packets-fit : Each Fits (packetsOf s m first)
@@ -110,9 +114,9 @@ module _ (s : Settings) (m : Post) (first : ℕ) (ok : Allowed s m) where
   packets-fit =
       if-case (Each Fits) (eqb (m .kind) 2)
       (λ e. (record {
-        offset = ok .offset; length = ok .short; total = ok .short; reach = λ _. ok .fits; far = λ _. ok .reach (omega (arith, eqb-true (m .kind) 2 e)); all = λ _. refl }
+        offset = ok′ .offset; length = ok′ .short; total = ok′ .short; reach = λ _. ok′ .fits; far = λ _. ok′ .reach (omega (arith, eqb-true (m .kind) 2 e)); all = λ _. refl }
         , tt))
-      (λ e. each-from Fits (packetAt s m first) 0 (packetsFor (pmtu s) (m .length)) (λ i h. packet-fits (omega (arith, ok .kind, eqb-false (m .kind) 2 e)) i (omega arith)))
+      (λ e. each-from Fits (packetAt s m first) 0 (packetsFor (pmtu s) (m .length)) (λ i h. packet-fits (omega (arith, ok′ .kind, eqb-false (m .kind) 2 e)) i (omega arith)))
 
 module _ (s : Settings) where
   messages-fit : {ps : List Packet} → Messages s ps → Each Fits ps
@@ -120,8 +124,8 @@ module _ (s : Settings) where
   messages-fit (message m a rest f e r) = rw e (each-append Fits (packetsOf s m a) rest (packets-fit s m a f) (messages-fit r))
 
   -- whatever an audited pair holds
-  pub held-fit : {ps : List Packet} → Held s ps → Each Fits ps
-  held-fit none-held = tt
+  pub held-fit : {ps : List Packet} → Remaining s ps → Each Fits ps
+  held-fit none-left = tt
   held-fit (rear m a k rest f h e r) =
       rw e (each-append Fits (drop k (packetsOf s m a)) rest (each-drop Fits k (packetsOf s m a) (packets-fit s m a f)) (messages-fit r))
 

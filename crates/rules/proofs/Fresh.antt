@@ -9,13 +9,14 @@ use lib.ListN.{length, replicate, length-replicate, getD-replicate}
 use Rattle.refusal.proofs.Cases.{by-test}
 use Rattle.rules.specs.declared.Pair.{Pair}
 use Rattle.rules.specs.declared.Slot.{Slot}
+use Rattle.rules.specs.Card.{Card}
 use Rattle.rules.specs.Account.{Side, noSide}
-use Rattle.rules.specs.Split.{from}
-use Rattle.rules.specs.Slots.{noPair, noSlot, pairAt, spelled, heldBy, idle, free, queue, queues, join, times, sideOf, sides, Below, endsOf, Spells, Whole}
-use Rattle.rules.specs.Shares.{claimed, claims}
-use Rattle.rules.specs.Audit.{Audit}
-use Rattle.rules.specs.Requests.{sideAt, allClosed}
-use Rattle.rules.specs.Calls.{fresh}
+use Rattle.rules.specs.Message.{from}
+use Rattle.rules.specs.Slots.{noPair, noSlot, pairAt, spelled, heldBy, idle, free, queue, queues, join, times, sideOf, sides, Below, endsOf, Spells, fresh}
+use Rattle.rules.specs.Pool.{claimed, claims}
+use Rattle.rules.specs.Audit.{Whole, Audit}
+use Rattle.rules.specs.Refusals.{sideAt}
+use Rattle.rules.specs.Calls.{allClosed}
 use Rattle.rules.proofs.Links.{Distinct, times-same, times-other, length-chain, spelled-is, spells-chain}
 use Rattle.rules.proofs.Disjoint.{each-once}
 use Rattle.rules.proofs.Good.{length-from, good-closed}
@@ -42,17 +43,17 @@ claimed-closed : (n : ℕ) → claimed (claims (replicate n noSide)) ≡ 0
 claimed-closed zero = refl
 claimed-closed (suc n) = omega (arith, claimed-closed n)
 
-pub well-closed : (pairs slots : ℕ) → Well pairs slots (replicate pairs noSide)
+pub well-closed : (card : Card) → Well card (replicate (card .pairs) noSide)
 unfolding sideAt
-well-closed pairs slots =
+well-closed card =
     record {
-      count = length-replicate pairs noSide;
-      good = λ p h. rw (getD-replicate pairs p noSide noSide h) (good-closed slots);
-      shares = omega (arith, claimed-closed pairs) }
+      count = length-replicate (card .pairs) noSide;
+      good = λ p h. rw (getD-replicate (card .pairs) p noSide noSide h) (good-closed card);
+      shares = omega (arith, claimed-closed (card .pairs)) }
 
-module _ (none pairs slots : ℕ) where
+module _ (card : Card) where
   shut : Pair
-  shut = record { standing = noPair .standing; queue = endsOf none [] }
+  shut = record { standing = noPair .standing; queue = endsOf (card .none) [] }
 
   held-none : (n : ℕ) → heldBy (replicate n shut) ≡ 0
   unfolding shut
@@ -69,54 +70,54 @@ module _ (none pairs slots : ℕ) where
   sides-none s zero = refl
   sides-none s (suc n) = ap (λ (l : List Side). noSide ∷ l) (sides-none s n)
 
-  pub fresh-sides : sides (fresh none pairs slots) ≡ allClosed pairs
+  pub fresh-sides : sides (fresh card) ≡ allClosed card
   unfolding fresh shut
-  fresh-sides = sides-none _ pairs
+  fresh-sides = sides-none _ (card .pairs)
 
-  fresh-pair : (p : ℕ) → p < pairs → pairAt (fresh none pairs slots .pairs) p ≡ shut
+  fresh-pair : (p : ℕ) → p < card .pairs → pairAt (fresh card .pairs) p ≡ shut
   unfolding fresh shut pairAt
-  fresh-pair p h = getD-replicate pairs p shut noPair h
+  fresh-pair p h = getD-replicate (card .pairs) p shut noPair h
 
-  count : length (fresh none pairs slots .slots) ≡ slots
+  count : length (fresh card .slots) ≡ card .slots
   unfolding fresh
-  count = length-chain none (from 0 slots) (replicate slots noSlot) ∙ length-replicate slots noSlot
+  count = length-chain (card .none) (from 0 (card .slots)) (replicate (card .slots) noSlot) ∙ length-replicate (card .slots) noSlot
 
-  pub free-runs : Spells none (fresh none pairs slots .slots) (idle (fresh none pairs slots)) (from 0 slots)
+  pub free-runs : Spells (card .none) (fresh card .slots) (idle (fresh card)) (from 0 (card .slots))
   unfolding fresh shut
   free-runs =
-      let c = spells-chain none (from 0 slots) (replicate slots noSlot) (distinct-from 0 slots) (below-from _ 0 slots (omega (arith, length-replicate slots noSlot))) in
-      record { first = refl; last = refl; held = omega (arith, count, held-none pairs, length-from 0 slots); linked = c .linked; below = c .below }
+      let c = spells-chain (card .none) (from 0 (card .slots)) (replicate (card .slots) noSlot) (distinct-from 0 (card .slots)) (below-from _ 0 (card .slots) (omega (arith, length-replicate (card .slots) noSlot))) in
+      record { first = refl; last = refl; held = omega (arith, count, held-none (card .pairs), length-from 0 (card .slots)); linked = c .linked; below = c .below }
 
-  pub fresh-free : free (fresh none pairs slots) ≡ from 0 slots
-  fresh-free = spelled-is none free-runs
+  pub fresh-free : free (fresh card) ≡ from 0 (card .slots)
+  fresh-free = spelled-is (card .none) free-runs
 
-  pairs-count : length (fresh none pairs slots .pairs) ≡ pairs
+  pairs-count : length (fresh card .pairs) ≡ card .pairs
   unfolding fresh shut
-  pairs-count = length-replicate pairs shut
+  pairs-count = length-replicate (card .pairs) shut
 
-  nothing-spelled : (s : List Slot) → Spells none s (shut .queue) (spelled s (shut .queue))
+  nothing-spelled : (s : List Slot) → Spells (card .none) s (shut .queue) (spelled s (shut .queue))
   unfolding shut
   nothing-spelled s = record { first = refl; last = refl; held = refl; linked = tt; below = tt }
 
-  none-held : join (queues (fresh none pairs slots)) ≡ []
+  none-held : join (queues (fresh card)) ≡ []
   unfolding fresh shut
-  none-held = queues-none (fresh none pairs slots .slots) pairs
+  none-held = queues-none (fresh card .slots) (card .pairs)
 
   shut-empty : shut .queue .held ≡ 0
   unfolding shut
   shut-empty = refl
 
-  pub fresh-whole : Whole none pairs slots (fresh none pairs slots)
+  pub fresh-whole : Whole card (fresh card)
   fresh-whole =
       record {
         pair-records = pairs-count;
         slot-records = count;
-        pairs-run = λ p h. rw (fresh-pair p h) (nothing-spelled (fresh none pairs slots .slots));
+        pairs-run = λ p h. rw (fresh-pair p h) (nothing-spelled (fresh card .slots));
         free-runs = rw fresh-free free-runs;
         once = λ i h.
-          rw (fresh-free, none-held, append-nil (from 0 slots))
-          (each-once slots (from 0 slots) (distinct-from 0 slots) (below-from slots 0 slots (omega arith)) (length-from 0 slots) i h);
+          rw (fresh-free, none-held, append-nil (from 0 (card .slots)))
+          (each-once (card .slots) (from 0 (card .slots)) (distinct-from 0 (card .slots)) (below-from (card .slots) 0 (card .slots) (omega arith)) (length-from 0 (card .slots)) i h);
         idle-empty = λ p h n. rw (fresh-pair p h) shut-empty }
 
-  pub fresh-audit : Audit none pairs slots (fresh none pairs slots)
-  fresh-audit = audit-of none pairs slots (fresh none pairs slots) fresh-whole (rw fresh-sides (well-closed pairs slots))
+  pub fresh-audit : Audit card (fresh card)
+  fresh-audit = audit-of card (fresh card) fresh-whole (rw fresh-sides (well-closed card))

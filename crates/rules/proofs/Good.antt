@@ -14,18 +14,24 @@ use Rattle.rules.specs.declared.Packet.{Packet}
 use Rattle.rules.specs.declared.Settings.{Settings}
 use Rattle.rules.specs.declared.Post.{Post}
 use Rattle.psn.specs.Psn.{psns, half, distance, before}
-use Rattle.rules.specs.Account.{Side, noSide, U, H, N, ahead, nothing, isRead, span, pmtu, packetsFor}
-use Rattle.rules.specs.Rules.{Outcome, after, inside, further, acknowledge}
+use Rattle.rules.specs.Card.{Card}
+use Rattle.rules.specs.Account.{Side, noSide, U, H, N, ahead, noPacket}
+use Rattle.rules.specs.Ranges.{badSettings}
+use Rattle.rules.specs.Message.{isRead, span, pmtu, packetsFor, from, packetAt, packetsOf, slotsFor}
+use Rattle.rules.specs.Posting.{posted}
+use Rattle.rules.specs.Outcome.{Outcome, after, opened}
+use Rattle.rules.specs.Release.{further}
+use Rattle.rules.specs.Acknowledge.{inside, acknowledge}
 use Rattle.rules.specs.Response.{covers, readAt, unfit, response}
 use Rattle.rules.specs.Timer.{timer}
 use Rattle.rules.specs.Emission.{emitted}
-use Rattle.rules.specs.Split.{from, packetAt, packetsOf, posted}
-use Rattle.rules.specs.Order.{_or_, left, right, Ordered}
-use Rattle.rules.specs.Messages.{Allowed, Messages, no-more, message, Held, none-held, rear}
-use Rattle.rules.specs.Audit.{Each, InRange, Fair, Timed}
-use Rattle.rules.specs.Shares.{claimOf}
-use Rattle.rules.specs.Requests.{opened, slotsFor}
+use Rattle.rules.specs.Pool.{claimOf}
+use Rattle.rules.specs.Order.{_or_, left, right}
+use Rattle.rules.proofs.InOrder.{InOrder}
+use Rattle.rules.specs.Messages.{Allowed, Messages, no-more, message, Remaining, none-left, rear}
+use Rattle.rules.specs.Audit.{Each, Bounded, Timed}
 use Rattle.psn.proofs.Laws.{distance-same}
+use Rattle.rules.proofs.Ranges.{in-range, permitted}
 use Rattle.rules.proofs.Order.{packets-pos}
 use Rattle.rules.proofs.Posted.{no-read, ordered-posted}
 use Rattle.rules.proofs.Messages.{held-drop, held-post}
@@ -97,12 +103,12 @@ module _ (s : Settings) where
   messages-short : {ps : List Packet} → Messages s ps → Each Short ps
   messages-short no-more = tt
   messages-short (message m a rest f e r) =
-      rw e (each-append Short (packetsOf s m a) rest (packets-short s m a (f .kind) (f .short)) (messages-short r))
+      rw e (each-append Short (packetsOf s m a) rest (packets-short s m a (permitted f .kind) (permitted f .short)) (messages-short r))
 
-  held-short : {ps : List Packet} → Held s ps → Each Short ps
-  held-short none-held = tt
+  held-short : {ps : List Packet} → Remaining s ps → Each Short ps
+  held-short none-left = tt
   held-short (rear m a k rest f h e r) =
-      rw e (each-append Short (drop k (packetsOf s m a)) rest (each-drop Short k (packetsOf s m a) (packets-short s m a (f .kind) (f .short))) (messages-short r))
+      rw e (each-append Short (drop k (packetsOf s m a)) rest (each-drop Short k (packetsOf s m a) (packets-short s m a (permitted f .kind) (permitted f .short))) (messages-short r))
 
 -- a read's PSNs are at most 8,388,608
 span-small : (s : Settings) → 1 ≤ s .pmtu → (p : Packet) → Short p → span s p ≤ suc half
@@ -116,7 +122,7 @@ span-small s one p short =
         omega arith))
     (λ _. omega arith)
 
-pub spans-small : (s : Settings) → 1 ≤ s .pmtu → {ps : List Packet} → Held s ps → Each (λ p. span s p ≤ suc half) ps
+pub spans-small : (s : Settings) → 1 ≤ s .pmtu → {ps : List Packet} → Remaining s ps → Each (λ p. span s p ≤ suc half) ps
 spans-small s one {ps} h = all ps (held-short s h)
   where
     all : (ps : List Packet) → Each Short ps → Each (λ p. span s p ≤ suc half) ps
@@ -125,12 +131,12 @@ spans-small s one {ps} h = all ps (held-short s h)
 
 -- ---- a side in order
 
-pub record Good (slots : ℕ) (s : Side) : Type 0 where
+pub record Good (card : Card) (s : Side) : Type 0 where
   pub state : s .standing .state ≤ 2
   pub idle : (s .standing .state ≡ 1 → ⊥) → length (s .packets) ≡ 0
-  pub fair : 0 < s .standing .state → Fair slots s
-  pub ordered : s .standing .state ≡ 1 → Ordered s
-  pub messages : Held (s .standing .settings) (s .packets)
+  pub bounded : 0 < s .standing .state → Bounded card s
+  pub ordered : s .standing .state ≡ 1 → InOrder s
+  pub messages : Remaining (s .standing .settings) (s .packets)
   pub timed : s .standing .state ≡ 1 → Timed s
 
 -- what a pair claims of the pool
@@ -141,37 +147,37 @@ pub claim-open : (s : Side) → 0 < s .standing .state → claimOf s ≡ record 
 claim-open s h = rw (ne-eqb (s .standing .state) 0 (λ e. omega arith))
 
 -- a side that follows another: in order, and claiming no more
-pub record Follows (slots : ℕ) (s t : Side) : Type 0 where
-  pub good : Good slots t
+pub record Follows (card : Card) (s t : Side) : Type 0 where
+  pub good : Good card t
   pub less : weight t ≤ weight s
 
-module _ (slots : ℕ) where
+module _ (card : Card) where
   -- a closed pair
-  pub good-closed : Good slots noSide
+  pub good-closed : Good card noSide
   good-closed =
       record {
-        state = omega arith; idle = λ _. refl; fair = λ h. absurd (omega arith); ordered = λ e. absurd (omega arith); messages = none-held; timed = λ e. absurd (omega arith) }
+        state = omega arith; idle = λ _. refl; bounded = λ h. absurd (omega arith); ordered = λ e. absurd (omega arith); messages = none-left; timed = λ e. absurd (omega arith) }
 
   -- a pair just opened
-  pub good-opened : (st : Settings) (a : ℕ) → InRange slots st → a < psns → Good slots (record { standing = opened st a; packets = [] })
+  pub good-opened : (st : Settings) (a : ℕ) → badSettings card st ≡ false → a < psns → Good card (record { standing = opened st a; packets = [] })
   good-opened st a r low =
       record {
         state = omega arith;
         idle = λ _. refl;
-        fair = λ _. record {
+        bounded = λ _. record {
           settings = r; u-low = low; x-low = low; h-low = low; n-low = low; packets-low = tt; retries = omega arith; rnrs = omega arith; held = omega arith };
         ordered = λ _. record {
           u-low = low; x-low = low; h-low = low; n-low = low; starts = sym (distance-same a); u-x-h = omega arith; u-h-n = omega arith;
           near = omega (arith, distance-same a); x-stands = left refl; h-stands = left refl; h-past = tt };
-        messages = none-held;
+        messages = none-left;
         timed = λ _. record { hold = omega arith; elapsed = omega (arith, pow-pos (st .timeout)); still = λ _. refl; on-hold = λ _. refl; untimed = λ _. refl } }
 
-  module _ (s : Side) (g : Good slots s) (ready : s .standing .state ≡ 1) where
-    f : Fair slots s
-    f = g .fair (omega arith)
+  module _ (s : Side) (g : Good card s) (ready : s .standing .state ≡ 1) where
+    f : Bounded card s
+    f = g .bounded (omega arith)
 
     -- an event's outcome
-    good-after : (o : Outcome) → Fine s o → Timely (s .standing .settings) (o .standing) → Follows slots s (after o s)
+    good-after : (o : Outcome) → Fine s o → Timely (s .standing .settings) (o .standing) → Follows card s (after o s)
     good-after o h w =
         record {
           good = by (h .fate);
@@ -179,17 +185,17 @@ module _ (slots : ℕ) where
             rw (claim-open s (omega arith), claim-open (after o s) (some (h .fate)), h .settings)
             (omega (arith, length-drop (o .released + o .flushed) (s .packets))) }
       where
-        some : ((o .standing .state ≡ 1) × Ordered (after o s)) or ((o .standing .state ≡ 2) × (length (s .packets) ≤ o .released + o .flushed)) → 0 < o .standing .state
+        some : ((o .standing .state ≡ 1) × InOrder (after o s)) or ((o .standing .state ≡ 2) × (length (s .packets) ≤ o .released + o .flushed)) → 0 < o .standing .state
         some (left x) = omega (arith, x .0)
         some (right x) = omega (arith, x .0)
 
         k : ℕ
         k = o .released + o .flushed
 
-        held : Held (o .standing .settings) (drop k (s .packets))
+        held : Remaining (o .standing .settings) (drop k (s .packets))
         held = rw (h .settings) (held-drop (s .standing .settings) (g .messages) k)
 
-        fair : Lows (o .standing .line) → Fair slots (after o s)
+        fair : Lows (o .standing .line) → Bounded card (after o s)
         fair l =
             record {
               settings = rw (h .settings) (f .settings);
@@ -204,12 +210,12 @@ module _ (slots : ℕ) where
             record {
               hold = w .hold; elapsed = rw (h .settings) (w .elapsed); still = w .still; on-hold = w .on-hold; untimed = rw (h .settings) (w .untimed) }
 
-        by : ((o .standing .state ≡ 1) × Ordered (after o s)) or ((o .standing .state ≡ 2) × (length (s .packets) ≤ k)) → Good slots (after o s)
+        by : ((o .standing .state ≡ 1) × InOrder (after o s)) or ((o .standing .state ≡ 2) × (length (s .packets) ≤ k)) → Good card (after o s)
         by (left x) =
             record {
               state = omega (arith, x .0);
               idle = λ n. absurd (n (x .0));
-              fair = λ _. fair (record { u-low = x .1 .u-low; x-low = x .1 .x-low; h-low = x .1 .h-low; n-low = x .1 .n-low });
+              bounded = λ _. fair (record { u-low = x .1 .u-low; x-low = x .1 .x-low; h-low = x .1 .h-low; n-low = x .1 .n-low });
               ordered = λ _. x .1;
               messages = held;
               timed = λ _. timed }
@@ -217,27 +223,27 @@ module _ (slots : ℕ) where
             record {
               state = omega (arith, x .0);
               idle = λ _. omega (arith, length-drop k (s .packets), x .1);
-              fair = λ _. fair (w .lows (x .0));
+              bounded = λ _. fair (w .lows (x .0));
               ordered = λ e. absurd (omega (arith, x .0, e));
               messages = held;
               timed = λ e. absurd (omega (arith, x .0, e)) }
 
-    pub good-acknowledge : (r y : ℕ) → r < psns → Follows slots s (after (acknowledge r y s) s)
+    pub good-acknowledge : (r y : ℕ) → r < psns → Follows card s (after (acknowledge r y s) s)
     good-acknowledge r y low =
-        good-after (acknowledge r y s) (fine-acknowledge s ready (g .ordered ready) r y low) (timely-acknowledge slots s ready f (g .ordered ready) (g .timed ready) r y low)
+        good-after (acknowledge r y s) (fine-acknowledge s ready (g .ordered ready) r y low) (timely-acknowledge card s ready f (g .ordered ready) (g .timed ready) r y low)
 
-    pub good-timer : (e : ℕ) → Follows slots s (after (timer e s) s)
-    good-timer e = good-after (timer e s) (fine-timer s ready (g .ordered ready) e) (timely-timer slots s ready f (g .ordered ready) (g .timed ready) e)
+    pub good-timer : (e : ℕ) → Follows card s (after (timer e s) s)
+    good-timer e = good-after (timer e s) (fine-timer s ready (g .ordered ready) e) (timely-timer card s ready f (g .ordered ready) (g .timed ready) e)
 
     -- a response that fits
-    pub good-response : (r opcode len : ℕ) → r < psns → inside r s && unfit r opcode len s ≡ false → Follows slots s (after (response r s) s)
+    pub good-response : (r opcode len : ℕ) → r < psns → inside r s && unfit r opcode len s ≡ false → Follows card s (after (response r s) s)
     good-response r opcode len low fits =
         good-after (response r s)
         (fine-response s ready (g .ordered ready) r low (λ h.
           let u : unfit r opcode len s ≡ false = rw h at fits in
           let one = covered (or-false _ _ (or-false _ _ u .0) .0) in
-          (one, span-small (s .standing .settings) (f .settings .pmtu-low) (readAt r s) (each-at Short (s .packets) _ nothing (held-short (s .standing .settings) (g .messages)) one))))
-        (timely-response slots s ready f (g .ordered ready) (g .timed ready) r low)
+          (one, span-small (s .standing .settings) (in-range (f .settings) .pmtu-low) (readAt r s) (each-at Short (s .packets) _ noPacket (held-short (s .standing .settings) (g .messages)) one))))
+        (timely-response card s ready f (g .ordered ready) (g .timed ready) r low)
       where
         at-most : (t : Packet → Bool) (ps : List Packet) → ahead t ps ≤ length ps
         at-most t [] = omega arith
@@ -255,7 +261,7 @@ module _ (slots : ℕ) where
         (λ q. absurd (omega (arith, ltb-true (distance (U s) (H s)) (distance (U s) y) q, distance-same (U s), ap (distance (U s)) (rw q at e))))
         (λ q. g .timed ready .still (rw q at e))
 
-    pub good-emitted : (budget : ℕ) → Follows slots s (emitted budget s)
+    pub good-emitted : (budget : ℕ) → Follows card s (emitted budget s)
     unfolding emitted
     good-emitted budget =
         let o = ordered-emitted s (g .ordered ready) budget in
@@ -263,7 +269,7 @@ module _ (slots : ℕ) where
         record { less = omega arith; good = record {
           state = omega (arith, ready);
           idle = λ n. absurd (n ready);
-          fair = λ _. record {
+          bounded = λ _. record {
             settings = f .settings; u-low = f .u-low; x-low = o .x-low; h-low = o .h-low; n-low = f .n-low;
             packets-low = f .packets-low; retries = f .retries; rnrs = f .rnrs; held = f .held };
           ordered = λ _. o;
@@ -274,17 +280,17 @@ module _ (slots : ℕ) where
     pub good-posted : (m : Post) → Allowed (s .standing .settings) m
         → distance (U s) (N s) + packetsFor (pmtu (s .standing .settings)) (m .length) ≤ half
         → length (s .packets) + slotsFor (s .standing .settings) m ≤ s .standing .settings .ceiling
-        → Good slots (posted m s)
+        → Good card (posted m s)
     unfolding posted
     good-posted m ok near room =
-        let o = ordered-posted s (g .ordered ready) m (ok .kind) near in
+        let o = ordered-posted s (g .ordered ready) m (permitted ok .kind) near in
         let w = g .timed ready in
         let st = s .standing .settings in
         let n = N s in
         record {
           state = omega (arith, ready);
           idle = λ k. absurd (k ready);
-          fair = λ _. record {
+          bounded = λ _. record {
             settings = f .settings; u-low = f .u-low; x-low = f .x-low; h-low = f .h-low; n-low = o .n-low;
             packets-low = each-append Low (s .packets) (packetsOf st m n) (f .packets-low) (packets-low st m n (f .n-low));
             retries = f .retries; rnrs = f .rnrs;

@@ -1,3 +1,6 @@
+pub mod InOrder
+pub mod Decides
+pub mod Ranges
 
 pub mod Numbers
 pub mod Links
@@ -8,8 +11,7 @@ pub mod Disjoint
 pub mod Posted
 pub mod Messages
 pub mod Emitted
-pub mod Recovered
-pub mod Shares
+pub mod Pool
 pub mod Scan
 pub mod Wrap
 pub mod Responded
@@ -17,12 +19,12 @@ pub mod Response
 pub mod Timer
 pub mod Sound
 pub mod Good
+pub mod Accepted
 pub mod Well
 pub mod Tables
 pub mod Fresh
 pub mod History
 pub mod Corollaries
-pub mod Examples
 pub mod Buffers
 pub mod Calls
 pub mod Fits

@@ -11,8 +11,8 @@ use Rattle.refusal.proofs.Cases.{by-test}
 use Rattle.rules.specs.declared.Packet.{Packet}
 use Rattle.rules.specs.declared.Settings.{Settings}
 use Rattle.rules.specs.declared.Post.{Post}
-use Rattle.rules.specs.Split.{packetsOf}
-use Rattle.rules.specs.Messages.{Allowed, Messages, no-more, message, Held, none-held, rear}
+use Rattle.rules.specs.Message.{packetsOf}
+use Rattle.rules.specs.Messages.{Allowed, Messages, no-more, message, Remaining, none-left, rear}
 
 drop-past : (j : ℕ) (a b : List Packet) → length a ≤ j → drop j (a ++ b) ≡ drop (j - length a) b
 drop-past j a b h =
@@ -24,8 +24,8 @@ drop-past j a b h =
 module _ (s : Settings) where
   -- the rear of a rear, and what follows
   cut : (m : Post) (first k j : ℕ) (rest : List Packet) → Allowed s m → Messages s rest
-      → ((i : ℕ) → Held s (drop i rest)) → k ≤ length (packetsOf s m first)
-      → Held s (drop j (drop k (packetsOf s m first) ++ rest))
+      → ((i : ℕ) → Remaining s (drop i rest)) → k ≤ length (packetsOf s m first)
+      → Remaining s (drop j (drop k (packetsOf s m first) ++ rest))
   cut m first k j rest f r later h =
       by-test (ltb j (length (drop k (packetsOf s m first))))
       (λ e.
@@ -36,12 +36,12 @@ module _ (s : Settings) where
       (λ e.
         rw (drop-past j (drop k (packetsOf s m first)) rest (ltb-false j (length (drop k (packetsOf s m first))) e)) (later (j - length (drop k (packetsOf s m first)))))
 
-  messages-drop : {ps : List Packet} → Messages s ps → (j : ℕ) → Held s (drop j ps)
-  messages-drop no-more j = rw (drop-nil j) none-held
+  messages-drop : {ps : List Packet} → Messages s ps → (j : ℕ) → Remaining s (drop j ps)
+  messages-drop no-more j = rw (drop-nil j) none-left
   messages-drop (message m first rest f e r) j = rw e (cut m first 0 j rest f r (messages-drop r) (omega arith))
 
-  pub held-drop : {ps : List Packet} → Held s ps → (j : ℕ) → Held s (drop j ps)
-  held-drop none-held j = rw (drop-nil j) none-held
+  pub held-drop : {ps : List Packet} → Remaining s ps → (j : ℕ) → Remaining s (drop j ps)
+  held-drop none-left j = rw (drop-nil j) none-left
   held-drop (rear m first k rest f h e r) j = rw e (cut m first k j rest f r (messages-drop r) (omega arith))
 
   -- a post adds a whole message
@@ -50,7 +50,7 @@ module _ (s : Settings) where
   messages-post m first f (message n a rest g e r) =
       message n a (rest ++ packetsOf s m first) g (ap (λ (l : List Packet). l ++ packetsOf s m first) e ∙ append-assoc (packetsOf s n a) rest (packetsOf s m first)) (messages-post m first f r)
 
-  pub held-post : (m : Post) (first : ℕ) → Allowed s m → 0 < length (packetsOf s m first) → {ps : List Packet} → Held s ps → Held s (ps ++ packetsOf s m first)
-  held-post m first f pos none-held = rear m first 0 [] f pos (sym (append-nil (packetsOf s m first))) no-more
+  pub held-post : (m : Post) (first : ℕ) → Allowed s m → 0 < length (packetsOf s m first) → {ps : List Packet} → Remaining s ps → Remaining s (ps ++ packetsOf s m first)
+  held-post m first f pos none-left = rear m first 0 [] f pos (sym (append-nil (packetsOf s m first))) no-more
   held-post m first f pos (rear n a k rest g h e r) =
       rear n a k (rest ++ packetsOf s m first) g h (ap (λ (l : List Packet). l ++ packetsOf s m first) e ∙ append-assoc (drop k (packetsOf s n a)) rest (packetsOf s m first)) (messages-post m first f r)

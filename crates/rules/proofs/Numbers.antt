@@ -1,9 +1,11 @@
 use mathlib.Core.Path.{_≡_, refl}
 use mathlib.Core.List.{[], _∷_}
 use Rattle.psn.specs.Psn.{distance}
-use Rattle.rules.specs.Rules.{acknowledge, release}
+use Rattle.rules.specs.Message.{packetsOf}
+use Rattle.rules.specs.Posting.{posted}
+use Rattle.rules.specs.Release.{release}
+use Rattle.rules.specs.Acknowledge.{acknowledge}
 use Rattle.rules.specs.Emission.{emitted}
-use Rattle.rules.specs.Split.{packetsOf, posted}
 use Rattle.rules.specs.Numbers.{eight}
 
 pub numbers :

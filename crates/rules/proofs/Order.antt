@@ -15,25 +15,27 @@ use Rattle.rules.specs.declared.Packet.{Packet}
 use Rattle.rules.specs.declared.Settings.{Settings}
 use Rattle.rules.specs.declared.Standing.{Standing}
 use Rattle.psn.specs.Psn.{psns, half, distance, before}
-use Rattle.rules.specs.Account.{Side, U, X, H, N, ahead, nothing, isRead, span, pmtu, packetsFor}
-use Rattle.rules.specs.Rules.{unanswered, passedBy, release, advanced}
-use Rattle.rules.specs.Order.{_or_, left, right, Runs, Starts, Past, Start, Ordered}
+use Rattle.rules.specs.Account.{Side, U, X, H, N, ahead, noPacket}
+use Rattle.rules.specs.Message.{isRead, span, pmtu, packetsFor}
+use Rattle.rules.specs.Release.{unanswered, passedBy, release, advanced}
+use Rattle.rules.specs.Order.{_or_, left, right, Past, Start}
+use Rattle.rules.proofs.InOrder.{RunsLow, StartsLow, InOrder}
 use Rattle.psn.proofs.Laws.{distance-is, distance-same, distance-from, distance-zero}
 
 module _ (size : Packet → ℕ) (u : ℕ) (u-low : u < psns) where
-  pub runs-end : (o : ℕ) (ps : List Packet) (n : ℕ) → Runs size u o ps n → o ≤ distance u n
+  pub runs-end : (o : ℕ) (ps : List Packet) (n : ℕ) → RunsLow size u o ps n → o ≤ distance u n
   runs-end o [] n r = omega arith
   runs-end o (p ∷ ps) n r = omega (arith, runs-end (o + size p) ps n (r .2))
 
   -- seen from a later U, all places are less by as much
-  pub runs-from : (b : ℕ) → b < psns → (o o′ : ℕ) → o ≡ distance u b + o′ → (ps : List Packet) (n : ℕ) → Runs size u o ps n → Runs size b o′ ps n
+  pub runs-from : (b : ℕ) → b < psns → (o o′ : ℕ) → o ≡ distance u b + o′ → (ps : List Packet) (n : ℕ) → RunsLow size u o ps n → RunsLow size b o′ ps n
   runs-from b h o o′ e [] n r = omega (arith, distance-from u b n (omega arith))
   runs-from b h o o′ e (p ∷ ps) n r =
       (r .0
       , omega (arith, distance-from u b (p .psn) (omega (arith, r .1)), r .1)
       , runs-from b h (o + size p) (o′ + size p) (omega arith) ps n (r .2))
 
-  pub runs-front : (k o d : ℕ) (ps : List Packet) (n : ℕ) → Runs size u o ps n → Runs size u d (drop k ps) n → o ≤ d
+  pub runs-front : (k o d : ℕ) (ps : List Packet) (n : ℕ) → RunsLow size u o ps n → RunsLow size u d (drop k ps) n → o ≤ d
   runs-front zero o d [] n r r′ = omega arith
   runs-front zero o d (p ∷ ps) n r r′ = omega arith
   runs-front (suc k) o d [] n r r′ = omega arith
@@ -41,7 +43,7 @@ module _ (size : Packet → ℕ) (u : ℕ) (u-low : u < psns) where
 
   -- a record that starts no nearer than the first that is left is left
   pub start-left : ((p : Packet) → 1 ≤ size p) → (a k o d : ℕ) (ps : List Packet) (n : ℕ)
-      → Runs size u o ps n → Runs size u d (drop k ps) n → d ≤ distance u a → Start a ps → Start a (drop k ps)
+      → RunsLow size u o ps n → RunsLow size u d (drop k ps) n → d ≤ distance u a → Start a ps → Start a (drop k ps)
   start-left pos a zero o d ps n r r′ h s = s
   start-left pos a (suc k) o d [] n r r′ h s = s
   start-left pos a (suc k) o d (p ∷ ps) n r r′ h (right s) = start-left pos a k (o + size p) d ps n (r .2) r′ h s
@@ -73,17 +75,17 @@ module _ (t : Standing) (u-low : t .line .u < psns) (b : ℕ) where
       (λ e. rw e)
 
   -- no read is passed: what is left starts at b
-  pub all-before : (o : ℕ) (ps : List Packet) (n : ℕ) → Runs (span (t .settings)) (t .line .u) o ps n
+  pub all-before : (o : ℕ) (ps : List Packet) (n : ℕ) → RunsLow (span (t .settings)) (t .line .u) o ps n
       → o ≤ distance (t .line .u) b → distance (t .line .u) b ≤ distance (t .line .u) n → distance (t .line .u) n ≤ half
       → length ps ≤ ahead (passedBy b t) ps
-      → Runs (span (t .settings)) (t .line .u) (distance (t .line .u) b) (drop (ahead (λ p. not (before (t .line .u) (p .psn) b)) ps) ps) n
+      → RunsLow (span (t .settings)) (t .line .u) (distance (t .line .u) b) (drop (ahead (λ p. not (before (t .line .u) (p .psn) b)) ps) ps) n
   all-before o [] n r h k near a = omega arith
   all-before o (p ∷ ps) n r h k near a =
       by-test (before (t .line .u) (p .psn) b)
       (λ e. rw e (by-test (isRead p)
         (λ q. absurd (not-suc-le-zero (rw (unanswered-is p (r .0) room, e, q) at a)))
         (λ q. all-before (o + span (t .settings) p) ps n (r .2) (rw q (omega (arith, ltb-true, r .1))) k near (le-of-suc-le-suc (rw q at a)))))
-      (λ e. rw e (subst (λ (d : ℕ). Runs (span (t .settings)) (t .line .u) d (p ∷ ps) n) (omega (arith, ltb-false, r .1)) r))
+      (λ e. rw e (subst (λ (d : ℕ). RunsLow (span (t .settings)) (t .line .u) d (p ∷ ps) n) (omega (arith, ltb-false, r .1)) r))
     where
       room : distance (t .line .u) (p .psn) + span (t .settings) p ≤ half
       room = omega (arith, runs-end (span (t .settings)) (t .line .u) u-low (o + span (t .settings) p) ps n (r .2), r .1)
@@ -94,11 +96,11 @@ module _ (t : Standing) (u-low : t .line .u < psns) (b : ℕ) where
     pub past : o ≤ distance (t .line .u) (q .psn)
     pub short : distance (t .line .u) (q .psn) < distance (t .line .u) b
     pub first : unanswered t q ≡ q .psn
-    pub runs : Runs (span (t .settings)) (t .line .u) (distance (t .line .u) (q .psn)) (drop (ahead (passedBy b t) ps) ps) n
+    pub runs : RunsLow (span (t .settings)) (t .line .u) (distance (t .line .u) (q .psn)) (drop (ahead (passedBy b t) ps) ps) n
 
-  pub halted : (o : ℕ) (ps : List Packet) (n : ℕ) → Runs (span (t .settings)) (t .line .u) o ps n → distance (t .line .u) n ≤ half
+  pub halted : (o : ℕ) (ps : List Packet) (n : ℕ) → RunsLow (span (t .settings)) (t .line .u) o ps n → distance (t .line .u) n ≤ half
       → ahead (passedBy b t) ps < length ps
-      → Halt o ps n (getD ps (ahead (passedBy b t) ps) nothing)
+      → Halt o ps n (getD ps (ahead (passedBy b t) ps) noPacket)
   halted o [] n r near a = absurd (not-suc-le-zero a)
   halted o (p ∷ ps) n r near a =
       by-test (passedBy b t p)
@@ -107,7 +109,7 @@ module _ (t : Standing) (u-low : t .line .u < psns) (b : ℕ) where
         past = omega (arith, r .1);
         short = ltb-true _ _ (rw (unanswered-is p (r .0) room) at (and-right (isRead p) _ e));
         first = unanswered-is p (r .0) room;
-        runs = rw e (subst (λ (d : ℕ). Runs (span (t .settings)) (t .line .u) d (p ∷ ps) n) (sym (r .1)) r) }))
+        runs = rw e (subst (λ (d : ℕ). RunsLow (span (t .settings)) (t .line .u) d (p ∷ ps) n) (sym (r .1)) r) }))
       (λ e.
         let rest = halted (o + span (t .settings) p) ps n (r .2) near (le-of-suc-le-suc (rw e at a)) in
         rw e (record { low = rest .low; past = omega (arith, rest .past); short = rest .short; first = rest .first; runs = rw e (rest .runs) }))
@@ -118,17 +120,17 @@ module _ (t : Standing) (u-low : t .line .u < psns) (b : ℕ) where
 -- ---- the release
 
 -- a run from 0 starts at U
-pub starts-of : (s : Settings) (u : ℕ) → u < psns → (ps : List Packet) (n : ℕ) → Runs (span s) u 0 ps n → Starts (span s) u ps n
+pub starts-of : (s : Settings) (u : ℕ) → u < psns → (ps : List Packet) (n : ℕ) → RunsLow (span s) u 0 ps n → StartsLow (span s) u ps n
 starts-of s u low [] n r = r
 starts-of s u low (p ∷ ps) n r =
     (r .0
     , rw zero (span-pos s p)
-    , subst (λ (d : ℕ). Runs (span s) u d ps n) (omega (arith, zero)) (r .2))
+    , subst (λ (d : ℕ). RunsLow (span s) u d ps n) (omega (arith, zero)) (r .2))
   where
     zero : distance (p .psn) u ≡ 0
     zero = rw (distance-zero u (p .psn) low (r .0) (r .1)) (distance-same u)
 
-pub past-of : (s : Settings) (u h : ℕ) → u < psns → (ps : List Packet) (n : ℕ) → Runs (span s) u 0 ps n → Past (span s) u h ps
+pub past-of : (s : Settings) (u h : ℕ) → u < psns → (ps : List Packet) (n : ℕ) → RunsLow (span s) u 0 ps n → Past (span s) u h ps
 past-of s u h low [] n r = tt
 past-of s u h low (p ∷ ps) n r = λ e. absurd (omega (arith, rw (distance-zero u (p .psn) low (r .0) (r .1), distance-same u) at e))
 
@@ -136,15 +138,15 @@ past-of s u h low (p ∷ ps) n r = λ e. absurd (omega (arith, rw (distance-zero
 pub record Kept (s : Side) (u′ k : ℕ) : Type 0 where
   pub low : u′ < psns
   pub near : distance (U s) u′ ≤ distance (U s) (H s)
-  pub starts : Starts (span (s .standing .settings)) u′ (drop k (s .packets)) (N s)
+  pub starts : StartsLow (span (s .standing .settings)) u′ (drop k (s .packets)) (N s)
   pub stands : (a : ℕ) → distance (U s) u′ ≤ distance (U s) a → distance (U s) a ≤ distance (U s) (N s) → Start a (s .packets) → Start a (drop k (s .packets))
   pub past : Past (span (s .standing .settings)) u′ (H s) (drop k (s .packets))
 
 -- what is left runs from u′
-pub kept-of : (s : Side) (o : Ordered s) (u′ k : ℕ) → u′ < psns
+pub kept-of : (s : Side) (o : InOrder s) (u′ k : ℕ) → u′ < psns
     → distance (U s) u′ ≤ distance (U s) (H s)
-    → Runs (span (s .standing .settings)) (U s) 0 (s .packets) (N s)
-    → Runs (span (s .standing .settings)) (U s) (distance (U s) u′) (drop k (s .packets)) (N s)
+    → RunsLow (span (s .standing .settings)) (U s) 0 (s .packets) (N s)
+    → RunsLow (span (s .standing .settings)) (U s) (distance (U s) u′) (drop k (s .packets)) (N s)
     → Kept s u′ k
 kept-of s o u′ k low near r r′ =
     record {
@@ -154,11 +156,11 @@ kept-of s o u′ k low near r r′ =
       stands = λ a h _. start-left (span (s .standing .settings)) (U s) (o .u-low) (span-pos (s .standing .settings)) a k 0 _ (s .packets) (N s) r r′ h;
       past = past-of (s .standing .settings) u′ (H s) low (drop k (s .packets)) (N s) there }
   where
-    there : Runs (span (s .standing .settings)) u′ 0 (drop k (s .packets)) (N s)
+    there : RunsLow (span (s .standing .settings)) u′ 0 (drop k (s .packets)) (N s)
     there = runs-from (span (s .standing .settings)) (U s) (o .u-low) u′ low _ 0 (omega arith) (drop k (s .packets)) (N s) r′
 
 -- the order is kept
-pub ordered-after : (s : Side) → Ordered s → (u′ k : ℕ) → Kept s u′ k → Ordered (record { standing = advanced u′ (s .standing); packets = drop k (s .packets) })
+pub ordered-after : (s : Side) → InOrder s → (u′ k : ℕ) → Kept s u′ k → InOrder (record { standing = advanced u′ (s .standing); packets = drop k (s .packets) })
 ordered-after s o u′ k c =
     record {
       u-low = c .low;
@@ -225,7 +227,7 @@ pub record Part (s : Settings) (u : ℕ) (ps : List Packet) : Type 0 where
   pub read : isRead head ≡ true
   pub inside : distance (head .psn) u < span s head
 
-pub whole-or-part : (s : Settings) (u n : ℕ) → u < psns → (ps : List Packet) → Starts (span s) u ps n → Runs (span s) u 0 ps n or Part s u ps
+pub whole-or-part : (s : Settings) (u n : ℕ) → u < psns → (ps : List Packet) → StartsLow (span s) u ps n → RunsLow (span s) u 0 ps n or Part s u ps
 whole-or-part s u n low [] h = left h
 whole-or-part s u n low (p ∷ ps) h =
     by-test (eqb (distance (p .psn) u) 0)
@@ -234,7 +236,7 @@ whole-or-part s u n low (p ∷ ps) h =
       left
         (h .0
         , rw (distance-zero (p .psn) u (h .0) low z) (distance-same (p .psn))
-        , subst (λ (d : ℕ). Runs (span s) u d ps n) (omega (arith, z)) (h .2)))
+        , subst (λ (d : ℕ). RunsLow (span s) u d ps n) (omega (arith, z)) (h .2)))
     (λ e. right (record {
       head = p;
       tail = ps;
@@ -242,12 +244,12 @@ whole-or-part s u n low (p ∷ ps) h =
       read = by-test (isRead p) (λ q. q) (λ q. absurd (omega (arith, eqb-false (distance (p .psn) u) 0 e, rw q at (h .1))));
       inside = h .1 }))
 
-module _ (s : Side) (o : Ordered s) where
+module _ (s : Side) (o : InOrder s) where
   kept-same : Kept s (U s) 0
   kept-same = record { low = o .u-low; near = rw distance-same (omega arith); starts = o .starts; stands = λ a h _ q. q; past = o .h-past }
 
   module _ (b : ℕ) (low : b < psns) (near : distance (U s) b ≤ distance (U s) (H s)) where
-    kept-whole : Runs (span (s .standing .settings)) (U s) 0 (s .packets) (N s)
+    kept-whole : RunsLow (span (s .standing .settings)) (U s) 0 (s .packets) (N s)
         → (u′ : ℕ) × (release b s .standing ≡ advanced u′ (s .standing)) × Kept s u′ (release b s .released)
     unfolding release
     kept-whole r =
@@ -280,22 +282,22 @@ module _ (s : Side) (o : Ordered s) where
         some : ltb 0 (length (s .packets)) ≡ true
         some = rw (c .is) (lt-ltb 0 (suc (length (c .tail))) (omega arith))
 
-        head : getD (s .packets) 0 nothing ≡ c .head
+        head : getD (s .packets) 0 noPacket ≡ c .head
         head = rw (c .is)
 
         zero : ltb 0 (distance (U s) b) ≡ false → distance (U s) b ≡ 0
         zero e = omega (arith, ltb-false)
 
     -- a release keeps the order
-    pub ordered-release : Ordered (record { standing = release b s .standing; packets = drop (release b s .released) (s .packets) })
+    pub ordered-release : InOrder (record { standing = release b s .standing; packets = drop (release b s .released) (s .packets) })
     ordered-release = go (whole-or-part (s .standing .settings) (U s) (N s) (o .u-low) (s .packets) (o .starts))
       where
         by : (u′ : ℕ) × (release b s .standing ≡ advanced u′ (s .standing)) × Kept s u′ (release b s .released)
-            → Ordered (record { standing = release b s .standing; packets = drop (release b s .released) (s .packets) })
+            → InOrder (record { standing = release b s .standing; packets = drop (release b s .released) (s .packets) })
         by k = rw (k .1) (ordered-after s o (k .0) (release b s .released) (k .2))
 
-        go : Runs (span (s .standing .settings)) (U s) 0 (s .packets) (N s)
+        go : RunsLow (span (s .standing .settings)) (U s) 0 (s .packets) (N s)
             or Part (s .standing .settings) (U s) (s .packets)
-            → Ordered (record { standing = release b s .standing; packets = drop (release b s .released) (s .packets) })
+            → InOrder (record { standing = release b s .standing; packets = drop (release b s .released) (s .packets) })
         go (left r) = by (kept-whole r)
         go (right c) = by (kept-part c)

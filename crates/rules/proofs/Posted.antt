@@ -12,17 +12,19 @@ use Rattle.rules.specs.declared.Packet.{Packet}
 use Rattle.rules.specs.declared.Settings.{Settings}
 use Rattle.rules.specs.declared.Post.{Post}
 use Rattle.psn.specs.Psn.{psns, half, distance, plus}
-use Rattle.rules.specs.Account.{Side, U, X, H, N, span, pmtu, packetsFor}
-use Rattle.rules.specs.Split.{from, opcodeAt, packetAt, packetsOf, posted}
-use Rattle.rules.specs.Order.{_or_, left, right, Runs, Starts, Past, Start, Ordered}
+use Rattle.rules.specs.Account.{Side, U, X, H, N}
+use Rattle.rules.specs.Message.{span, pmtu, packetsFor, from, opcodeAt, packetAt, packetsOf}
+use Rattle.rules.specs.Posting.{posted}
+use Rattle.rules.specs.Order.{_or_, left, right, Past, Start}
+use Rattle.rules.proofs.InOrder.{RunsLow, StartsLow, InOrder}
 use Rattle.psn.proofs.Laws.{distance-step}
 use Rattle.rules.proofs.Order.{starts-of, packets-pos, past-of}
 
 -- ---- joined runs
 
 module _ (size : Packet → ℕ) where
-  pub runs-append : (u o : ℕ) (ps qs : List Packet) (n n′ : ℕ) → Runs size u o ps n → Runs size u (distance u n) qs n′ → Runs size u o (ps ++ qs) n′
-  runs-append u o [] qs n n′ r r′ = subst (λ (d : ℕ). Runs size u d qs n′) (sym r) r′
+  pub runs-append : (u o : ℕ) (ps qs : List Packet) (n n′ : ℕ) → RunsLow size u o ps n → RunsLow size u (distance u n) qs n′ → RunsLow size u o (ps ++ qs) n′
+  runs-append u o [] qs n n′ r r′ = subst (λ (d : ℕ). RunsLow size u d qs n′) (sym r) r′
   runs-append u o (p ∷ ps) qs n n′ r r′ = (r .0, r .1, runs-append u (o + size p) ps qs n n′ (r .2) r′)
 
 start-front : (a : ℕ) (ps qs : List Packet) → Start a ps → Start a (ps ++ qs)
@@ -51,7 +53,7 @@ no-read m n i h =
 
 module _ (s : Settings) (m : Post) (u first : ℕ) (u-low : u < psns) where
   packets-run : m .kind ≤ 1 → (i k o j : ℕ) → o ≡ distance u first + i → j ≡ i + k → distance u first + j ≤ half
-      → Runs (span s) u o (map (packetAt s m first) (from i k)) (plus first j)
+      → RunsLow (span s) u o (map (packetAt s m first) (from i k)) (plus first j)
   packets-run kd i zero o j e f h = omega (arith, distance-step u first j (omega arith))
   packets-run kd i (suc k) o j e f h =
       (omega arith
@@ -59,10 +61,10 @@ module _ (s : Settings) (m : Post) (u first : ℕ) (u-low : u < psns) where
       , packets-run kd (suc i) k (o + span s (packetAt s m first i)) j (rw (no-read m (packetsFor (pmtu s) (m .length)) i kd) (omega arith)) (omega arith) h)
 
   pub post-runs : first < psns → distance u first + packetsFor (pmtu s) (m .length) ≤ half → m .kind ≤ 2
-      → Runs (span s) u (distance u first) (packetsOf s m first) (plus first (packetsFor (pmtu s) (m .length)))
+      → RunsLow (span s) u (distance u first) (packetsOf s m first) (plus first (packetsFor (pmtu s) (m .length)))
   unfolding packetsOf
   post-runs low h kd =
-      if-case (λ (ps : List Packet). Runs (span s) u (distance u first) ps (plus first (packetsFor (pmtu s) (m .length)))) (eqb (m .kind) 2)
+      if-case (λ (ps : List Packet). RunsLow (span s) u (distance u first) ps (plus first (packetsFor (pmtu s) (m .length)))) (eqb (m .kind) 2)
       (λ e. (low, refl, omega (arith, distance-step u first (packetsFor (pmtu s) (m .length)) (omega arith))))
       (λ e. packets-run (omega (arith, eqb-false (m .kind) 2 e)) 0 (packetsFor (pmtu s) (m .length)) (distance u first) _ (omega arith) (omega arith) h)
 
@@ -75,8 +77,8 @@ module _ (s : Settings) (m : Post) (u first : ℕ) (u-low : u < psns) where
       front zero h = absurd (omega arith)
       front (suc n) h = left (omega arith)
 
-pub ordered-posted : (s : Side) → Ordered s → (m : Post) → m .kind ≤ 2
-    → distance (U s) (N s) + packetsFor (pmtu (s .standing .settings)) (m .length) ≤ half → Ordered (posted m s)
+pub ordered-posted : (s : Side) → InOrder s → (m : Post) → m .kind ≤ 2
+    → distance (U s) (N s) + packetsFor (pmtu (s .standing .settings)) (m .length) ≤ half → InOrder (posted m s)
 unfolding posted
 ordered-posted s o m kd h =
     record {
@@ -104,14 +106,14 @@ ordered-posted s o m kd h =
     end : distance (U s) n′ ≡ distance (U s) (N s) + packetsFor (pmtu st) (m .length)
     end = distance-step (U s) (N s) (packetsFor (pmtu st) (m .length)) (omega arith)
 
-    new : Runs (span st) (U s) (distance (U s) (N s)) qs n′
+    new : RunsLow (span st) (U s) (distance (U s) (N s)) qs n′
     new = post-runs st m (U s) (N s) (o .u-low) (o .n-low) h kd
 
-    starts : (ps : List Packet) → Starts (span st) (U s) ps (N s) → Starts (span st) (U s) (ps ++ qs) n′
+    starts : (ps : List Packet) → StartsLow (span st) (U s) ps (N s) → StartsLow (span st) (U s) (ps ++ qs) n′
     starts [] e = starts-of st (U s) (o .u-low) qs n′ (rw (← e) at new)
     starts (p ∷ ps) e = (e .0, e .1, runs-append (span st) (U s) _ ps qs (N s) n′ (e .2) new)
 
-    past : (ps : List Packet) → Starts (span st) (U s) ps (N s) → Past (span st) (U s) (H s) ps → Past (span st) (U s) (H s) (ps ++ qs)
+    past : (ps : List Packet) → StartsLow (span st) (U s) ps (N s) → Past (span st) (U s) (H s) ps → Past (span st) (U s) (H s) (ps ++ qs)
     past [] e x = past-of st (U s) (H s) (o .u-low) qs n′ (rw (← e) at new)
     past (p ∷ ps) e x = x
 

@@ -14,10 +14,13 @@ use Rattle.refusal.specs.Choice.{if_then_else_}
 use Rattle.rules.specs.declared.Packet.{Packet}
 use Rattle.rules.specs.declared.Answer.the-variants.{Resending}
 use Rattle.psn.specs.Psn.{psns, half, distance, plus, before}
-use Rattle.rules.specs.Account.{Side, U, X, H, N, span, ahead, nothing}
-use Rattle.rules.specs.Rules.{advanced, further, release, passedBy, unanswered, inside}
+use Rattle.rules.specs.Account.{Side, U, X, H, N, ahead, noPacket}
+use Rattle.rules.specs.Message.{span}
+use Rattle.rules.specs.Release.{advanced, further, release, passedBy, unanswered}
+use Rattle.rules.specs.Acknowledge.{inside}
 use Rattle.rules.specs.Response.{covers, readAt, taken, response}
-use Rattle.rules.specs.Order.{_or_, left, right, Runs, Starts, Ordered}
+use Rattle.rules.specs.Order.{_or_, left, right}
+use Rattle.rules.proofs.InOrder.{RunsLow, StartsLow, InOrder}
 use Rattle.psn.proofs.Laws.{distance-same, distance-zero, distance-from, distance-step, distance-plus}
 use Rattle.rules.proofs.Order.{whole-or-part, Part, none-before, ordered-release}
 use Rattle.rules.proofs.Responded.{covers-first, ordered-last, ordered-inside}
@@ -36,7 +39,7 @@ clear b s e =
     (λ q. absurd (true≢false (rw q at e)))
     (λ q. record { none = ltb-false _ (length (s .packets)) q; standing = rw q; released = rw q })
 
-module _ (s : Side) (ready : s .standing .state ≡ 1) (o : Ordered s) (r : ℕ) (low : r < psns) (h : inside r s ≡ true)
+module _ (s : Side) (ready : s .standing .state ≡ 1) (o : InOrder s) (r : ℕ) (low : r < psns) (h : inside r s ≡ true)
     (one : ahead (covers (s .standing .settings) r) (s .packets) < length (s .packets)) where
   in-range : distance (U s) r < distance (U s) (H s)
   in-range = ltb-true (distance (U s) r) (distance (U s) (H s)) h
@@ -48,7 +51,7 @@ module _ (s : Side) (ready : s .standing .state ≡ 1) (o : Ordered s) (r : ℕ)
       c : Clear r s
       c = clear r s e
 
-      go : Runs (span (s .standing .settings)) (U s) 0 (s .packets) (N s) or Part (s .standing .settings) (U s) (s .packets)
+      go : RunsLow (span (s .standing .settings)) (U s) 0 (s .packets) (N s) or Part (s .standing .settings) (U s) (s .packets)
           → ahead (covers (s .standing .settings) r) (s .packets) ≡ ahead (λ p. not (before (U s) (p .psn) r)) (s .packets)
       go (left q) = covers-first (s .standing) (o .u-low) r low (N s) (o .near) 0 (s .packets) q (omega arith) (c .none) one
       go (right q) =
@@ -69,14 +72,14 @@ module _ (s : Side) (ready : s .standing .state ≡ 1) (o : Ordered s) (r : ℕ)
 
   -- so what is left starts with it
   left-is : release r s .stopped ≡ false → drop (release r s .released) (s .packets) ≡ readAt r s ∷ drop (suc (release r s .released)) (s .packets)
-  left-is e = rw (released-is-ahead e) (drop-cons (s .packets) (ahead (covers (s .standing .settings) r) (s .packets)) nothing one)
+  left-is e = rw (released-is-ahead e) (drop-cons (s .packets) (ahead (covers (s .standing .settings) r) (s .packets)) noPacket one)
 
   module _ (small : span (s .standing .settings) (readAt r s) ≤ suc half) (e : release r s .stopped ≡ false) where
     -- the pair once all before r are released
     mid : Side
     mid = record { standing = advanced r (s .standing); packets = drop (release r s .released) (s .packets) }
 
-    mid-ordered : Ordered mid
+    mid-ordered : InOrder mid
     unfolding mid
     mid-ordered = rw (← (clear r s e .standing)) (ordered-release s o r low (omega (arith, in-range)))
 
@@ -85,14 +88,14 @@ module _ (s : Side) (ready : s .standing .state ≡ 1) (o : Ordered s) (r : ℕ)
 
     within : distance (readAt r s .psn) r < span (s .standing .settings) (readAt r s)
     unfolding mid
-    within = subst (λ (l : List Packet). Starts (span (s .standing .settings)) r l (N s)) (left-is e) (mid-ordered .starts) .1
+    within = subst (λ (l : List Packet). StartsLow (span (s .standing .settings)) r l (N s)) (left-is e) (mid-ordered .starts) .1
 
-    one-on : Ordered (record {
+    one-on : InOrder (record {
         standing = advanced (plus r 1) (advanced r (s .standing));
         packets = drop (release r s .released + (if eqb (suc (distance (readAt r s .psn) r)) (span (s .standing .settings) (readAt r s)) then 1 else 0)) (s .packets) })
     unfolding mid
     one-on =
-        if-case (λ (last : ℕ). Ordered (record { standing = advanced (plus r 1) (advanced r (s .standing)); packets = drop (release r s .released + last) (s .packets) }))
+        if-case (λ (last : ℕ). InOrder (record { standing = advanced (plus r 1) (advanced r (s .standing)); packets = drop (release r s .released + last) (s .packets) }))
         (eqb (suc (distance (readAt r s .psn) r)) (span (s .standing .settings) (readAt r s)))
         (λ q.
           rw (← drop-drop 1 (release r s .released) (s .packets))
@@ -111,7 +114,7 @@ seen u r x h l n m =
       (λ e. e ∙ sym (lt-ltb (distance u x - distance u r) 1 (omega (arith, ltb-true (distance u x) (distance u r + 1) e))))
       (λ e. e ∙ sym (le-ltb (distance u x - distance u r) 1 (omega (arith, ltb-false (distance u x) (distance u r + 1) e)))))
 
-taken-is : (s : Side) → Ordered s → (r : ℕ) → r < psns → inside r s ≡ true
+taken-is : (s : Side) → InOrder s → (r : ℕ) → r < psns → inside r s ≡ true
     → taken (U s) (plus r 1) (advanced r (s .standing)) ≡ advanced (plus r 1) (advanced r (s .standing))
 taken-is s o r low h =
     rw (seen (U s) r (further (U s) (X s) r) (o .u-low) low (omega (arith, ltb-true, o .u-h-n, o .near))
@@ -119,7 +122,7 @@ taken-is s o r low h =
       , ne-eqb (plus r 1) r (λ e. omega (arith, e)))
 
 -- a response that fits if it is inside the open range
-pub fine-response : (s : Side) → s .standing .state ≡ 1 → Ordered s → (r : ℕ) → r < psns
+pub fine-response : (s : Side) → s .standing .state ≡ 1 → InOrder s → (r : ℕ) → r < psns
     → (inside r s ≡ true → (ahead (covers (s .standing .settings) r) (s .packets) < length (s .packets)) × (span (s .standing .settings) (readAt r s) ≤ suc half))
     → Fine s (response r s)
 unfolding response

@@ -12,9 +12,11 @@ use Rattle.refusal.proofs.Cases.{by-test}
 use Rattle.rules.specs.declared.Packet.{Packet}
 use Rattle.rules.specs.declared.Standing.{Standing}
 use Rattle.psn.specs.Psn.{psns, half, distance, before}
-use Rattle.rules.specs.Account.{Side, U, N, ahead, isRead, span}
-use Rattle.rules.specs.Rules.{unanswered, passedBy, release}
-use Rattle.rules.specs.Order.{_or_, left, right, Runs, Ordered}
+use Rattle.rules.specs.Account.{Side, U, N, ahead}
+use Rattle.rules.specs.Message.{isRead, span}
+use Rattle.rules.specs.Release.{unanswered, passedBy, release}
+use Rattle.rules.specs.Order.{_or_, left, right}
+use Rattle.rules.proofs.InOrder.{RunsLow, InOrder}
 use Rattle.rules.proofs.Order.{runs-end, unanswered-is, halted, span-pos, Part, whole-or-part, none-passed, none-before}
 use Rattle.psn.proofs.Laws.{distance-same}
 
@@ -32,14 +34,14 @@ or-true false = refl
 
 module _ (t : Standing) (u-low : t .line .u < psns) (b n : ℕ) (near : distance (t .line .u) n ≤ half) where
   -- a read that is before b is passed
-  pub no-read : (o : ℕ) (p : Packet) (ps : List Packet) → Runs (span (t .settings)) (t .line .u) o (p ∷ ps) n
+  pub no-read : (o : ℕ) (p : Packet) (ps : List Packet) → RunsLow (span (t .settings)) (t .line .u) o (p ∷ ps) n
       → passedBy b t p ≡ false → before (t .line .u) (p .psn) b ≡ true → isRead p ≡ false
   no-read o p ps r e sure = by-test (isRead p) (λ q. absurd (true≢false (rw (unanswered-is t u-low b p (r .0) room, sure, q) at e))) (λ q. q)
     where
       room : distance (t .line .u) (p .psn) + span (t .settings) p ≤ half
       room = omega (arith, runs-end (span (t .settings)) (t .line .u) u-low (o + span (t .settings) p) ps n (r .2), r .1)
 
-  scan-stopped : (o : ℕ) (ps : List Packet) → Runs (span (t .settings)) (t .line .u) o ps n → ahead (passedBy b t) ps < length ps
+  scan-stopped : (o : ℕ) (ps : List Packet) → RunsLow (span (t .settings)) (t .line .u) o ps n → ahead (passedBy b t) ps < length ps
       → ahead (stays b t) ps ≡ ahead (passedBy b t) ps
   scan-stopped o [] r a = refl
   scan-stopped o (p ∷ ps) r a =
@@ -52,7 +54,7 @@ module _ (t : Standing) (u-low : t .line .u < psns) (b n : ℕ) (near : distance
         let sure : before (t .line .u) (p .psn) b ≡ true = lt-ltb (distance (t .line .u) (p .psn)) (distance (t .line .u) b) early in
         rw (e, no-read o p ps r e sure, sure) (ap suc (scan-stopped (o + span (t .settings) p) ps (r .2) a′)))
 
-  scan-clear : (ps : List Packet) (o : ℕ) → Runs (span (t .settings)) (t .line .u) o ps n → length ps ≤ ahead (passedBy b t) ps
+  scan-clear : (ps : List Packet) (o : ℕ) → RunsLow (span (t .settings)) (t .line .u) o ps n → length ps ≤ ahead (passedBy b t) ps
       → ahead (stays b t) ps ≡ ahead (λ p. not (before (t .line .u) (p .psn) b)) ps
   scan-clear [] o r a = refl
   scan-clear (p ∷ ps) o r a =
@@ -63,11 +65,11 @@ module _ (t : Standing) (u-low : t .line .u < psns) (b n : ℕ) (near : distance
         (λ sure. rw (sure, or-true (isRead p))))
 
 -- how many leave is how many the scan passes over
-pub released-is : (s : Side) → Ordered s → (b : ℕ) → release b s .released ≡ ahead (stays b (s .standing)) (s .packets)
+pub released-is : (s : Side) → InOrder s → (b : ℕ) → release b s .released ≡ ahead (stays b (s .standing)) (s .packets)
 unfolding release
 released-is s o b = go (whole-or-part (s .standing .settings) (U s) (N s) (o .u-low) (s .packets) (o .starts))
   where
-    go : Runs (span (s .standing .settings)) (U s) 0 (s .packets) (N s) or Part (s .standing .settings) (U s) (s .packets)
+    go : RunsLow (span (s .standing .settings)) (U s) 0 (s .packets) (N s) or Part (s .standing .settings) (U s) (s .packets)
         → release b s .released ≡ ahead (stays b (s .standing)) (s .packets)
     go (left r) =
         by-test (ltb (ahead (passedBy b (s .standing)) (s .packets)) (length (s .packets)))

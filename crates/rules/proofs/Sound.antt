@@ -13,12 +13,15 @@ use Rattle.rules.specs.declared.Settings.{Settings}
 use Rattle.rules.specs.declared.Line.{Line}
 use Rattle.rules.specs.declared.Standing.{Standing}
 use Rattle.psn.specs.Psn.{psns, distance, plus}
+use Rattle.rules.specs.Card.{Card}
 use Rattle.rules.specs.Account.{Side, U, H, N, ahead}
-use Rattle.rules.specs.Rules.{Outcome, inside, release, Release, passedBy, advanced, resent, over, ack, rnr, waits, acknowledge}
+use Rattle.rules.specs.Outcome.{Outcome, over}
+use Rattle.rules.specs.Release.{release, Release, passedBy, advanced}
+use Rattle.rules.specs.Acknowledge.{inside, resent, ack, rnr, waits, acknowledge}
 use Rattle.rules.specs.Response.{response}
-use Rattle.rules.specs.Timer.{timer}
-use Rattle.rules.specs.Order.{Ordered}
-use Rattle.rules.specs.Audit.{Fair, Timed, longest, timeoutOf}
+use Rattle.rules.specs.Timer.{timer, timeoutOf}
+use Rattle.rules.proofs.InOrder.{InOrder}
+use Rattle.rules.specs.Audit.{Bounded, Timed, longestHold}
 use Rattle.psn.proofs.Laws.{distance-step, distance-same}
 use Rattle.rules.proofs.Response.{clear}
 
@@ -37,14 +40,14 @@ pub record Timely (st : Settings) (t : Standing) : Type 0 where
   pub lows : t .state ≡ 2 → Lows (t .line)
   pub retries : t .clock .retries ≤ st .retry
   pub rnrs : t .clock .rnrs ≤ st .rnr
-  pub hold : t .clock .hold ≤ longest
+  pub hold : t .clock .hold ≤ longestHold
   pub elapsed : t .clock .elapsed < timeoutOf st
   pub still : t .line .u ≡ t .line .h → t .clock .elapsed ≡ 0
   pub on-hold : 0 < t .clock .hold → t .clock .elapsed ≡ 0
   pub untimed : st .timeout ≡ 0 → t .clock .elapsed ≡ 0
 
 -- no time has run
-calm : {st : Settings} {t : Standing} → (t .state ≡ 2 → Lows (t .line)) → t .clock .retries ≤ st .retry → t .clock .rnrs ≤ st .rnr → t .clock .hold ≤ longest
+calm : {st : Settings} {t : Standing} → (t .state ≡ 2 → Lows (t .line)) → t .clock .retries ≤ st .retry → t .clock .rnrs ≤ st .rnr → t .clock .hold ≤ longestHold
     → t .clock .elapsed ≡ 0 → Timely st t
 calm {st} l r n h e =
     record { lows = l; retries = r; rnrs = n; hold = h; elapsed = omega (arith, pow-pos (st .timeout)); still = λ _. e; on-hold = λ _. e; untimed = λ _. e }
@@ -57,7 +60,7 @@ record Counts (s : Side) (t : Standing) : Type 0 where
   hold : t .clock .hold ≡ s .standing .clock .hold
   n : t .line .n ≡ N s
 
-module _ (slots : ℕ) (s : Side) (ready : s .standing .state ≡ 1) (f : Fair slots s) (o : Ordered s) (w : Timed s) where
+module _ (card : Card) (s : Side) (ready : s .standing .state ≡ 1) (f : Bounded card s) (o : InOrder s) (w : Timed s) where
   abbrev pub st : Settings
   st = s .standing .settings
 
@@ -81,7 +84,7 @@ module _ (slots : ℕ) (s : Side) (ready : s .standing .state ≡ 1) (f : Fair s
         lows = alive _ refl; retries = f .retries; rnrs = f .rnrs; hold = w .hold; elapsed = w .elapsed; still = w .still; on-hold = w .on-hold; untimed = w .untimed }
 
   -- X back at U, elapsed 0
-  back : (b rnrs hold : ℕ) → rnrs ≤ st .rnr → hold ≤ longest → Timely st (resent rnrs hold (release b s .standing))
+  back : (b rnrs hold : ℕ) → rnrs ≤ st .rnr → hold ≤ longestHold → Timely st (resent rnrs hold (release b s .standing))
   back b n h l m = let c = counts b in calm (alive _ (c .state)) (c .retries) l m refl
 
   as-was : (b : ℕ) → Timely st (resent (release b s .standing .clock .rnrs) (release b s .standing .clock .hold) (release b s .standing))
@@ -107,13 +110,13 @@ module _ (slots : ℕ) (s : Side) (ready : s .standing .state ≡ 1) (f : Fair s
         (λ _. as-was (plus r 1))
         (λ e. rw (clear (plus r 1) s e .standing) (rw moved (calm (alive _ refl) (omega arith) (omega arith) (w .hold) refl)))
 
-    timely-rnr : (wait : ℕ) → wait ≤ longest → Timely st (rnr r wait s .standing)
+    timely-rnr : (wait : ℕ) → wait ≤ longestHold → Timely st (rnr r wait s .standing)
     timely-rnr wait l =
         if-case (λ (x : Outcome). Timely st (x .standing)) (ltb (st .rnr) 7 && eqb (release r s .standing .clock .rnrs) 0)
         (λ _. finished r)
         (λ _. back r _ wait (if-case (λ (n : ℕ). n ≤ st .rnr) (ltb (st .rnr) 7) (λ _. omega (arith, counts r .rnrs)) (λ _. counts r .rnrs)) l)
 
-  wait-most : (low : ℕ) → 10000 * getD waits low 0 ≤ longest
+  wait-most : (low : ℕ) → 10000 * getD waits low 0 ≤ longestHold
   wait-most low = omega (arith, most waits low (omega arith))
     where
       Most : List ℕ → Type 0

@@ -8,24 +8,27 @@ use lib.Dec.{eqb, ltb}
 use borrow.Author.Tests.{ltb-false, eqb-true, eqb-false}
 use lib.ListN.{length, set, drop, length-set, length-map, length-drop, List·getD-map}
 use lib.Seq.{getD-set-same, getD-set-other, ext-getD}
-use Rattle.refusal.proofs.Cases.{by-test}
+use Rattle.refusal.proofs.Cases.{by-test, or-right}
 use Rattle.rules.specs.declared.Packet.{Packet}
 use Rattle.rules.specs.declared.Settings.{Settings}
 use Rattle.rules.specs.declared.Standing.{Standing}
 use Rattle.rules.specs.declared.Slot.{Slot}
 use Rattle.rules.specs.declared.Pair.{Pair}
+use Rattle.rules.specs.Card.{Card}
 use Rattle.rules.specs.Account.{Side, noSide, N}
-use Rattle.rules.specs.Slots.{Tables, noPair, slotAt, pairAt, spelled, heldBy, free, queue, sideOf, side, sides, freed, stored, Whole}
-use Rattle.rules.specs.Shares.{Claim, claimed, claimOf, claims, holding}
-use Rattle.rules.specs.Audit.{Audit}
-use Rattle.rules.specs.Requests.{Request, opening, posting, emitting, acknowledging, responding, ticking, closing, sideAt, slotsFor, refusals, Move, leave, join, effect, sideAfter, packetsAfter}
-use Rattle.rules.specs.Calls.{tablesAfter}
+use Rattle.rules.specs.Message.{slotsFor}
+use Rattle.rules.specs.Slots.{Tables, noPair, slotAt, pairAt, spelled, heldBy, free, queue, sideOf, side, sides, freed, stored}
+use Rattle.rules.specs.Pool.{Claim, claimed, claimOf, claims}
+use Rattle.rules.specs.Audit.{Whole, Audit}
+use Rattle.rules.specs.Requests.{Request, opening, posting, emitting, acknowledging, responding, ticking, closing}
+use Rattle.rules.specs.Refusals.{sideAt, refusals}
+use Rattle.rules.specs.Calls.{Move, leave, join, effect, sideAfter, packetsAfter, tablesAfter}
+use Rattle.rules.proofs.InOrder.{in-order, ordered}
 use Rattle.rules.proofs.Arranged.{all-slots, length-follow, freed-side, freed-others, freed-whole, stored-side, stored-others, stored-whole}
-use Rattle.rules.proofs.Shares.{enough}
-use Rattle.refusal.proofs.Given.{NoneHolds}
-use Rattle.rules.proofs.Sound.{or-false}
+use Rattle.rules.proofs.Pool.{allHeld, enough}
+use Rattle.rules.proofs.Accepted.{Accepted, is-ready}
 use Rattle.rules.proofs.Good.{Good, claim-open, length-packets}
-use Rattle.rules.proofs.Well.{Well, well-accepted, side-same, claim-at, is-ready, posted-state}
+use Rattle.rules.proofs.Well.{Well, well-accepted, side-same, claim-at, posted-state}
 
 -- ---- a side, off the tables
 
@@ -55,7 +58,7 @@ sides-of t n p s e h here there =
 -- what the pairs claim to hold is what they hold
 holding-is : (s : List Slot) (ps : List Pair)
     → ((i : ℕ) → i < length ps → (pairAt ps i .standing .state ≡ 1 → ⊥) → pairAt ps i .queue .held ≡ 0)
-    → holding (claims (map (sideOf s) ps)) ≡ heldBy ps
+    → allHeld (claims (map (sideOf s) ps)) ≡ heldBy ps
 unfolding pairAt sideOf
 holding-is s [] h = refl
 holding-is s (x ∷ ps) h =
@@ -65,98 +68,98 @@ holding-is s (x ∷ ps) h =
     (λ e. rw e (omega (arith, rest, length-map (spelled s (x .queue)) (λ (i : ℕ). slotAt s i .packet), length-follow s (x .queue .first) (x .queue .held))))
 
 -- pairs that are not ready hold none
-pub idle-side : (none pairs slots : ℕ) (t : Tables) → Whole none pairs slots t → (p : ℕ) → p < pairs → (side t p .standing .state ≡ 1 → ⊥) → length (side t p .packets) ≡ 0
+pub idle-side : (card : Card) (t : Tables) → Whole card t → (p : ℕ) → p < card .pairs → (side t p .standing .state ≡ 1 → ⊥) → length (side t p .packets) ≡ 0
 unfolding side sideOf
-idle-side none pairs slots t w p h n =
+idle-side card t w p h n =
     length-map (queue t p) (λ (i : ℕ). slotAt (t .slots) i .packet)
     ∙ length-follow (t .slots) (pairAt (t .pairs) p .queue .first) (pairAt (t .pairs) p .queue .held)
     ∙ w .idle-empty p h n
 
-module _ (none pairs slots : ℕ) (t : Tables) where
+module _ (card : Card) (t : Tables) where
   -- ---- the audit, as the tables' and the account's part
 
-  pub well-of : Audit none pairs slots t → Well pairs slots (sides t)
+  pub well-of : Audit card t → Well card (sides t)
   well-of a =
       record {
         count = length-map (t .pairs) (sideOf (t .slots)) ∙ a .whole .pair-records;
         good = λ p h. rw (side-at t p) (record {
           state = a .states p h;
-          idle = idle-side none pairs slots t (a .whole) p h;
-          fair = a .fair p h;
-          ordered = a .ordered p h;
+          idle = idle-side card t (a .whole) p h;
+          bounded = a .bounded p h;
+          ordered = λ e. in-order (a .bounded p h (omega arith)) (a .ordered p h e);
           messages = a .messages p h;
           timed = a .timed p h });
         shares = a .shares }
 
-  pub audit-of : Whole none pairs slots t → Well pairs slots (sides t) → Audit none pairs slots t
+  pub audit-of : Whole card t → Well card (sides t) → Audit card t
   audit-of w l =
       record {
         whole = w;
         states = λ p h. good p h .state;
-        fair = λ p h. good p h .fair;
-        ordered = λ p h. good p h .ordered;
+        bounded = λ p h. good p h .bounded;
+        ordered = λ p h e. ordered (good p h .ordered e);
         messages = λ p h. good p h .messages;
         timed = λ p h. good p h .timed;
         shares = l .shares }
     where
-      good : (p : ℕ) → p < pairs → Good slots (side t p)
+      good : (p : ℕ) → p < card .pairs → Good card (side t p)
       good p h = rw (← side-at t p) (l .good p h)
 
 -- ---- slots move as packets do
 
-module _ (none pairs slots : ℕ) (t : Tables) where
-  module _ (w : Whole none pairs slots t) (p : ℕ) (hp : p < pairs) where
+module _ (card : Card) (t : Tables) where
+  module _ (w : Whole card t) (p : ℕ) (hp : p < card .pairs) where
     pub record Moved (st : Standing) (m : Move) : Type 0 where
-      pub same : sides (tablesAfter none p st m t) ≡ set (sides t) p (record { standing = st; packets = packetsAfter m (sideAt (sides t) p .packets) })
-      pub whole : Whole none pairs slots (tablesAfter none p st m t)
+      pub same : sides (tablesAfter (card .none) p st m t) ≡ set (sides t) p (record { standing = st; packets = packetsAfter m (sideAt (sides t) p .packets) })
+      pub whole : Whole card (tablesAfter (card .none) p st m t)
 
-    moved-leave : (st : Standing) (k : ℕ) → Good slots (record { standing = st; packets = drop k (sideAt (sides t) p .packets) }) → Moved st (leave k)
+    moved-leave : (st : Standing) (k : ℕ) → Good card (record { standing = st; packets = drop k (sideAt (sides t) p .packets) }) → Moved st (leave k)
     moved-leave st k g =
-        let v = freed-whole none pairs slots t w p hp st k (λ n. omega (arith, rw (side-at t p) at (g .idle n), length-drop k (side t p .packets), side-length t p)) in
+        let v = freed-whole card t w p hp st k (λ n. omega (arith, rw (side-at t p) at (g .idle n), length-drop k (side t p .packets), side-length t p)) in
         record {
           same =
             rw (side-at t p)
-            (sides-of t (freed none p st k t) p _ (v .pair-records ∙ sym (w .pair-records)) (omega (arith, w .pair-records))
-              (freed-side none pairs slots t w p hp st k)
-              (λ r h. freed-others none pairs slots t w p hp st k r (omega (arith, w .pair-records))));
+            (sides-of t (freed (card .none) p st k t) p _ (v .pair-records ∙ sym (w .pair-records)) (omega (arith, w .pair-records))
+              (freed-side card t w p hp st k)
+              (λ r h. freed-others card t w p hp st k r (omega (arith, w .pair-records))));
           whole = v }
 
     moved-join : (st : Standing) (qs : List Packet) → st .state ≡ 1 → length qs ≤ length (free t) → Moved st (join qs)
     moved-join st qs e room =
-        let v = stored-whole none pairs slots t w p hp st qs room e in
+        let v = stored-whole card t w p hp st qs room e in
         record {
           same =
             rw (side-at t p)
-            (sides-of t (stored none p st qs t) p _ (v .pair-records ∙ sym (w .pair-records)) (omega (arith, w .pair-records))
-              (stored-side none pairs slots t w p hp st qs room)
-              (λ r h. stored-others none pairs slots t w p hp st qs room r (omega (arith, w .pair-records))));
+            (sides-of t (stored (card .none) p st qs t) p _ (v .pair-records ∙ sym (w .pair-records)) (omega (arith, w .pair-records))
+              (stored-side card t w p hp st qs room)
+              (λ r h. stored-others card t w p hp st qs room r (omega (arith, w .pair-records))));
           whole = v }
 
     -- what keeps the sum within the total finds free slots
     room-for : (c : Claim) (new : ℕ) → 0 < sideAt (sides t) p .standing .state → c .held ≡ length (sideAt (sides t) p .packets) + new
-        → claimed (set (claims (sides t)) p c) ≤ slots → new ≤ length (free t)
+        → claimed (set (claims (sides t)) p c) ≤ card .slots → new ≤ length (free t)
     room-for c new o e l =
-        enough (claims (sides t)) slots (length (free t)) p new c (claimOf noSide)
+        enough (claims (sides t)) (card .slots) (length (free t)) p new c (claimOf noSide)
         (omega (arith, length-map (sides t) claimOf, length-map (t .pairs) (sideOf (t .slots)), w .pair-records))
         (e ∙ sym (ap (λ (x : Claim). x .held + new) (claim-at (sides t) p ∙ claim-open (sideAt (sides t) p) o)))
         l
-        (omega (arith, all-slots none pairs slots t w, holding-is (t .slots) (t .pairs) (λ i h. w .idle-empty i (omega (arith, w .pair-records)))))
+        (omega (arith, all-slots card t w, holding-is (t .slots) (t .pairs) (λ i h. w .idle-empty i (omega (arith, w .pair-records)))))
 
-  module _ (a : Audit none pairs slots t) (p : ℕ) (hp : p < pairs) (header : Settings → Packet → List ℕ) where
-    kept : (q : Request) → NoneHolds (refusals pairs slots q p (sides t)) → Good slots (sideAfter (effect header q (sideAt (sides t) p)) (sideAt (sides t) p))
+  module _ (a : Audit card t) (p : ℕ) (hp : p < card .pairs) where
+    kept : (q : Request) → Accepted card q p (sides t) → Good card (sideAfter (effect q (sideAt (sides t) p)) (sideAt (sides t) p))
     kept q h =
-        rw (side-same (sides t) p (sideAfter (effect header q (sideAt (sides t) p)) (sideAt (sides t) p)) (omega (arith, well-of none pairs slots t a .count)))
-        at (well-accepted pairs slots (sides t) (well-of none pairs slots t a) p hp header q h .good p hp)
+        rw (side-same (sides t) p (sideAfter (effect q (sideAt (sides t) p)) (sideAt (sides t) p)) (omega (arith, well-of card t a .count)))
+        at (well-accepted card (sides t) (well-of card t a) p hp q h .good p hp)
 
-    pub moved : (q : Request) → NoneHolds (refusals pairs slots q p (sides t))
-        → Moved (a .whole) p hp (effect header q (sideAt (sides t) p) .standing) (effect header q (sideAt (sides t) p) .move)
+    pub moved : (q : Request) → Accepted card q p (sides t)
+        → Moved (a .whole) p hp (effect q (sideAt (sides t) p) .standing) (effect q (sideAt (sides t) p) .move)
     moved (opening st psn) h = moved-leave (a .whole) p hp _ 0 (kept (opening st psn) h)
     moved (posting m) h =
         let s = sideAt (sides t) p in
         let st = s .standing .settings in
-        let ready : s .standing .state ≡ 1 = is-ready (h .1 .0) in
+        let ready : s .standing .state ≡ 1 = is-ready (h .state) in
         let room = room-for (a .whole) p hp (record { share = st .share; held = length (s .packets) + slotsFor st m }) (slotsFor st m) (omega arith) refl
-          (ltb-false slots _ (or-false (ltb (st .ceiling) (length (s .packets) + slotsFor st m)) _ (h .1 .1 .1 .1 .1 .1 .0) .1)) in
+          (ltb-false (card .slots) _ (or-right (ltb (st .ceiling) (length (s .packets) + slotsFor st m)) _ (h .room))) in
         moved-join (a .whole) p hp _ _ (posted-state m s ∙ ready) (omega (arith, length-packets st m (N s)))
     moved (emitting budget b) h = moved-leave (a .whole) p hp _ 0 (kept (emitting budget b) h)
     moved (acknowledging r y b) h = moved-leave (a .whole) p hp _ _ (kept (acknowledging r y b) h)
@@ -165,8 +168,8 @@ module _ (none pairs slots : ℕ) (t : Tables) where
     moved (closing b) h = moved-leave (a .whole) p hp _ _ (kept (closing b) h)
 
     -- an accepted request: audited after, and the account's sides
-    pub accepted-audit : (q : Request) → NoneHolds (refusals pairs slots q p (sides t))
-        → Audit none pairs slots (tablesAfter none p (effect header q (sideAt (sides t) p) .standing) (effect header q (sideAt (sides t) p) .move) t)
+    pub accepted-audit : (q : Request) → Accepted card q p (sides t)
+        → Audit card (tablesAfter (card .none) p (effect q (sideAt (sides t) p) .standing) (effect q (sideAt (sides t) p) .move) t)
     accepted-audit q h =
         let m = moved q h in
-        audit-of none pairs slots _ (m .whole) (rw (m .same) (well-accepted pairs slots (sides t) (well-of none pairs slots t a) p hp header q h))
+        audit-of card _ (m .whole) (rw (m .same) (well-accepted card (sides t) (well-of card t a) p hp q h))

@@ -12,18 +12,19 @@ use Rattle.rules.specs.declared.Standing.{Standing}
 use Rattle.rules.specs.declared.Answer.{Answer}
 use Rattle.rules.specs.Account.{Side, U, H}
 use Rattle.rules.specs.Timer.{ticked, timer}
-use Rattle.rules.specs.Order.{left, right, Ordered}
+use Rattle.rules.specs.Order.{left, right}
+use Rattle.rules.proofs.InOrder.{InOrder}
 use Rattle.rules.proofs.Acknowledge.{Fine, ordered-resent}
 
 -- the times do not matter to the order
-pub ordered-clock : (t : Standing) (ps : List Packet) (c : Clock) → Ordered (record { standing = t; packets = ps })
-    → Ordered (record { standing = record { state = t .state; settings = t .settings; line = t .line; clock = c }; packets = ps })
+pub ordered-clock : (t : Standing) (ps : List Packet) (c : Clock) → InOrder (record { standing = t; packets = ps })
+    → InOrder (record { standing = record { state = t .state; settings = t .settings; line = t .line; clock = c }; packets = ps })
 ordered-clock t ps c o =
     record {
       u-low = o .u-low; x-low = o .x-low; h-low = o .h-low; n-low = o .n-low; starts = o .starts; u-x-h = o .u-x-h; u-h-n = o .u-h-n;
       near = o .near; x-stands = o .x-stands; h-stands = o .h-stands; h-past = o .h-past }
 
-module _ (s : Side) (ready : s .standing .state ≡ 1) (o : Ordered s) where
+module _ (s : Side) (ready : s .standing .state ≡ 1) (o : InOrder s) where
   tick : (a : Answer) (elapsed hold : ℕ) → Fine s (ticked a elapsed hold (s .standing))
   tick a e h = record { settings = refl; fate = left (ready, ordered-clock (s .standing) (s .packets) _ o) }
 

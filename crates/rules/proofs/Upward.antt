@@ -11,12 +11,16 @@ use Rattle.refusal.proofs.Cases.{by-test, if-case}
 use Rattle.rules.specs.declared.Packet.{Packet}
 use Rattle.rules.specs.declared.Standing.{Standing}
 use Rattle.psn.specs.Psn.{psns, half, distance, before}
-use Rattle.rules.specs.Account.{Side, U, X, N, ahead, isRead, span}
+use Rattle.rules.specs.Card.{Card}
+use Rattle.rules.specs.Account.{Side, U, X, N, ahead}
+use Rattle.rules.specs.Message.{isRead, span}
 use Rattle.rules.specs.Emission.{ends, waiting, sent}
-use Rattle.rules.specs.Order.{_or_, left, right, Runs, Starts, Start, Ordered}
 use Rattle.rules.specs.Slots.{Tables, side}
+use Rattle.rules.specs.Order.{_or_, left, right, Start}
+use Rattle.rules.proofs.InOrder.{RunsLow, StartsLow, InOrder, audited-order}
 use Rattle.rules.specs.Audit.{Audit, Each}
 use Rattle.psn.proofs.Laws.{distance-same, distance-step, distance-inj, distance-zero}
+use Rattle.rules.proofs.Ranges.{in-range}
 use Rattle.rules.proofs.Order.{runs-end, span-pos, unanswered-is}
 use Rattle.rules.proofs.Good.{spans-small}
 use Rattle.rules.proofs.Responded.{start-past, first-behind}
@@ -29,13 +33,13 @@ Upward t x (p ∷ ps) = (sent t p .psn ≡ x) × Upward t (ends (t .settings) p)
 
 module _ (t : Standing) (u-low : t .line .u < psns) (n : ℕ) (n-low : n < psns) (near : distance (t .line .u) n ≤ half) where
   -- a record that is not partly answered carries its own PSN
-  own : (o : ℕ) (p : Packet) (ps : List Packet) → Runs (span (t .settings)) (t .line .u) o (p ∷ ps) n → sent t p .psn ≡ p .psn
+  own : (o : ℕ) (p : Packet) (ps : List Packet) → RunsLow (span (t .settings)) (t .line .u) o (p ∷ ps) n → sent t p .psn ≡ p .psn
   own o p ps r =
       if-case (λ (q : Packet). q .psn ≡ p .psn) (isRead p)
       (λ _. unanswered-is t u-low 0 p (r .0) (omega (arith, r .1, near, runs-end (span (t .settings)) (t .line .u) u-low (o + span (t .settings) p) ps n (r .2))))
       (λ _. refl)
 
-  runs-upward : (o x : ℕ) (ps : List Packet) → x < psns → distance (t .line .u) x ≡ o → Runs (span (t .settings)) (t .line .u) o ps n → Upward t x ps
+  runs-upward : (o x : ℕ) (ps : List Packet) → x < psns → distance (t .line .u) x ≡ o → RunsLow (span (t .settings)) (t .line .u) o ps n → Upward t x ps
   runs-upward o x [] low e r = tt
   runs-upward o x (p ∷ ps) low e r =
       (own o p ps r ∙ distance-inj (t .line .u) (p .psn) x (r .0) low (r .1 ∙ sym e)
@@ -45,7 +49,7 @@ module _ (t : Standing) (u-low : t .line .u < psns) (n : ℕ) (n-low : n < psns)
           (r .2))
 
   -- the records that end after x, where x is a start or N
-  runs-waiting : (x o : ℕ) (ps : List Packet) → x < psns → Runs (span (t .settings)) (t .line .u) o ps n → (x ≡ n) or Start x ps
+  runs-waiting : (x o : ℕ) (ps : List Packet) → x < psns → RunsLow (span (t .settings)) (t .line .u) o ps n → (x ≡ n) or Start x ps
       → Upward t x (drop (ahead (λ q. before (t .line .u) x (ends (t .settings) q)) ps) ps)
   runs-waiting x o [] low r s = tt
   runs-waiting x o (p ∷ ps) low r s =
@@ -83,7 +87,7 @@ at-u t p u-low low h =
     one : isRead p ≡ false → span (t .settings) p ≡ 1
     one e = rw e
 
-module _ (s : Side) (o : Ordered s) (p : Packet) (ps : List Packet) (h : Starts (span (s .standing .settings)) (U s) (p ∷ ps) (N s))
+module _ (s : Side) (o : InOrder s) (p : Packet) (ps : List Packet) (h : StartsLow (span (s .standing .settings)) (U s) (p ∷ ps) (N s))
     (z : span (s .standing .settings) p ≤ suc half) where
   abbrev rest : ℕ
   rest = span (s .standing .settings) p - distance (p .psn) (U s)
@@ -123,17 +127,17 @@ module _ (s : Side) (o : Ordered s) (p : Packet) (ps : List Packet) (h : Starts 
         let late : rest ≤ distance (U s) (X s) = omega (arith, ltb-false (distance (U s) (X s)) (distance (U s) (ends (s .standing .settings) p)) e, end) in
         rw e (runs-waiting (s .standing) (o .u-low) (N s) (o .n-low) (o .near) (X s) rest ps (o .x-low) (h .2) (there late x)))
 
-pub upward : (s : Side) → Ordered s → Each (λ p. span (s .standing .settings) p ≤ suc half) (s .packets) → Upward (s .standing) (X s) (waiting s)
+pub upward : (s : Side) → InOrder s → Each (λ p. span (s .standing .settings) p ≤ suc half) (s .packets) → Upward (s .standing) (X s) (waiting s)
 upward s o small = go (s .packets) (o .starts) small (o .x-stands)
   where
-    go : (ps : List Packet) → Starts (span (s .standing .settings)) (U s) ps (N s) → Each (λ p. span (s .standing .settings) p ≤ suc half) ps
+    go : (ps : List Packet) → StartsLow (span (s .standing .settings)) (U s) ps (N s) → Each (λ p. span (s .standing .settings) p ≤ suc half) ps
         → (X s ≡ U s) or (X s ≡ N s) or Start (X s) ps
         → Upward (s .standing) (X s) (drop (ahead (λ q. before (U s) (X s) (ends (s .standing .settings) q)) ps) ps)
     go [] h z x = tt
     go (p ∷ ps) h z x = from-first s o p ps h (z .0) x
 
 -- from audited tables
-pub audited-upward : (none pairs slots : ℕ) (t : Tables) → Audit none pairs slots t → (p : ℕ) → p < pairs → side t p .standing .state ≡ 1
+pub audited-upward : (card : Card) (t : Tables) → Audit card t → (p : ℕ) → p < card .pairs → side t p .standing .state ≡ 1
     → Upward (side t p .standing) (X (side t p)) (waiting (side t p))
-audited-upward none pairs slots t a p h ready =
-    upward (side t p) (a .ordered p h ready) (spans-small (side t p .standing .settings) (a .fair p h (omega arith) .settings .pmtu-low) (a .messages p h))
+audited-upward card t a p h ready =
+    upward (side t p) (audited-order a p h ready) (spans-small (side t p .standing .settings) (in-range (a .bounded p h (omega arith) .settings) .pmtu-low) (a .messages p h))

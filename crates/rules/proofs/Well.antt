@@ -5,53 +5,30 @@ use mathlib.Core.Bool.{Bool, true, false, not, true≢false}
 use mathlib.Core.List.{List, [], _∷_, _++_}
 use Prim.Native.Nat.{ℕ, zero, suc, _+_, _^_, _≤_, _<_}
 use native.Mathlib.Omega.{arith}
-use lib.Dec.{eqb}
+use lib.Dec.{eqb, ltb}
 use borrow.Author.Tests.{ltb-false, leb-false, eqb-true, eqb-false, eq-eqb, lt-ltb, not-false}
 use lib.ListN.{length, getD, set, length-set, length-map, length-append, drop-of-length-le, List·getD-map}
 use lib.Seq.{getD-set-same, getD-set-other}
-use Rattle.refusal.proofs.Cases.{by-test}
+use Rattle.refusal.proofs.Cases.{by-test, or-left, or-right}
 use Rattle.refusal.specs.Choice.{anyOf}
 use Rattle.rules.specs.declared.Packet.{Packet}
 use Rattle.rules.specs.declared.Settings.{Settings}
 use Rattle.rules.specs.declared.Post.{Post}
 use Rattle.psn.specs.Psn.{psns, half}
+use Rattle.rules.specs.Card.{Card}
 use Rattle.rules.specs.Account.{Side, noSide, N}
-use Rattle.rules.specs.Split.{packetsOf, posted}
+use Rattle.rules.specs.Message.{packetsOf, slotsFor}
+use Rattle.rules.specs.Ranges.{badSettings, badPsn}
+use Rattle.rules.specs.Posting.{posted}
 use Rattle.rules.specs.Emission.{emitted}
+use Rattle.rules.specs.Pool.{Claim, claimed, claimOf, claims}
 use Rattle.rules.specs.Messages.{Allowed}
-use Rattle.rules.specs.Shares.{Claim, claimed, claimOf, claims}
-use Rattle.rules.specs.Audit.{InRange}
-use Rattle.rules.specs.Requests.{Request, opening, posting, emitting, acknowledging, responding, ticking, closing, sideAt, settingsFaults, postFaults, slotsFor, refusals, effect, sideAfter}
-use Rattle.rules.proofs.Shares.{claimed-set}
-use Rattle.refusal.proofs.Given.{NoneHolds}
+use Rattle.rules.specs.Requests.{Request, opening, posting, emitting, acknowledging, responding, ticking, closing}
+use Rattle.rules.specs.Refusals.{sideAt}
+use Rattle.rules.specs.Calls.{effect, sideAfter}
+use Rattle.rules.proofs.Pool.{claimed-set}
+use Rattle.rules.proofs.Accepted.{Accepted, is-ready}
 use Rattle.rules.proofs.Good.{Good, Follows, claim-open, length-packets, good-closed, good-opened, good-acknowledge, good-timer, good-response, good-emitted, good-posted}
-use Rattle.rules.proofs.Sound.{or-false}
-
--- ---- no test holds
-
-abbrev AllFalse : List Bool → Type 0
-AllFalse [] = Unit {0}
-AllFalse (b ∷ bs) = (b ≡ false) × AllFalse bs
-
-none-of : (bs : List Bool) → anyOf bs ≡ false → AllFalse bs
-none-of [] e = tt
-none-of (true ∷ bs) e = absurd (true≢false e)
-none-of (false ∷ bs) e = (refl, none-of bs e)
-
-in-range : (slots : ℕ) (s : Settings) (psn : ℕ) → anyOf (settingsFaults slots s psn) ≡ false → InRange slots s × (psn < psns)
-in-range slots s psn e = let h = none-of (settingsFaults slots s psn) e in omega (arith, ltb-false, leb-false)
-
-allowed : (s : Settings) (m : Post) → anyOf (postFaults m) ≡ false → slotsFor s m ≤ s .ceiling → Allowed s m
-allowed s m e room =
-    let h = none-of (postFaults m) e in
-    record {
-      kind = ltb-false 2 (m .kind) (h .0);
-      plain-read = λ k. rw (eq-eqb (m .kind) 2 k) at (h .1 .0);
-      short = leb-false (2 ^ 31) (m .length) (h .1 .1 .0);
-      offset = leb-false (2 ^ 32) (m .offset) (h .1 .1 .1 .0);
-      fits = ltb-false (2 ^ 32) (m .offset + m .length) (h .1 .1 .1 .1 .0);
-      reach = λ k l. ltb-false (2 ^ 64) (m .address + m .length) (rw (lt-ltb 0 (m .kind) k, lt-ltb 0 (m .length) l) at (h .1 .1 .1 .1 .1 .0));
-      room = omega (arith, length-packets s m 0) }
 
 -- ---- sides in a list
 
@@ -76,9 +53,6 @@ empty : (ps : List Packet) → length ps ≡ 0 → ps ≡ []
 empty [] e = refl
 empty (p ∷ ps) e = absurd (omega arith)
 
-pub is-ready : {x : ℕ} → not (eqb x 1) ≡ false → x ≡ 1
-is-ready {x} e = eqb-true x 1 (not-false (eqb x 1) e)
-
 pub posted-is : (m : Post) (s : Side) → record { standing = posted m s .standing; packets = s .packets ++ packetsOf (s .standing .settings) m (N s) } ≡ posted m s
 unfolding posted
 posted-is m s = refl
@@ -99,14 +73,14 @@ claim-posted m s e =
     ∙ ap (λ (n : ℕ). record { share = s .standing .settings .share; held = n })
       (length-append (s .packets) _ ∙ ap (λ (n : ℕ). length (s .packets) + n) (length-packets (s .standing .settings) m (N s)))
 
-module _ (pairs slots : ℕ) where
+module _ (card : Card) where
   pub record Well (a : List Side) : Type 0 where
-    pub count : length a ≡ pairs
-    pub good : (p : ℕ) → p < pairs → Good slots (sideAt a p)
-    pub shares : claimed (claims a) ≤ slots
+    pub count : length a ≡ card .pairs
+    pub good : (p : ℕ) → p < card .pairs → Good card (sideAt a p)
+    pub shares : claimed (claims a) ≤ card .slots
 
-  module _ (a : List Side) (w : Well a) (p : ℕ) (hp : p < pairs) where
-    well-set : (s : Side) → Good slots s → claimed (set (claims a) p (claimOf s)) ≤ slots → Well (set a p s)
+  module _ (a : List Side) (w : Well a) (p : ℕ) (hp : p < card .pairs) where
+    well-set : (s : Side) → Good card s → claimed (set (claims a) p (claimOf s)) ≤ card .slots → Well (set a p s)
     well-set s g l =
         record {
           count = length-set a p s ∙ w .count;
@@ -116,41 +90,39 @@ module _ (pairs slots : ℕ) where
             (λ e. rw (side-other a p r s (eqb-false r p e)) (w .good r h));
           shares = rw (claims-set a p s) l }
 
-    well-less : (s : Side) → Follows slots (sideAt a p) s → Well (set a p s)
+    well-less : (s : Side) → Follows card (sideAt a p) s → Well (set a p s)
     well-less s f =
         well-set s (f .good)
         (omega (arith, w .shares, f .less, rw claim-at at (claimed-set (claims a) p (claimOf s) (claimOf noSide) (omega (arith, w .count, length-map a claimOf)))))
 
     -- ---- what is not refused
 
-    module _ (header : Settings → Packet → List ℕ) where
-      pub well-accepted : (q : Request) → NoneHolds (refusals pairs slots q p a) → Well (set a p (sideAfter (effect header q (sideAt a p)) (sideAt a p)))
-      well-accepted (opening st psn) h =
-          let z = eqb-true (sideAt a p .standing .state) 0 (not-false _ (h .1 .0)) in
-          let r = in-range slots st psn (h .1 .1 .0) in
-          rw (empty (sideAt a p .packets) (w .good p hp .idle (λ e. omega arith)))
-          (well-set _ (good-opened slots st psn (r .0) (r .1)) (ltb-false _ _ (h .1 .1 .1 .0)))
-      well-accepted (posting m) h =
-          let s = sideAt a p in
-          let st = s .standing .settings in
-          let ready = is-ready (h .1 .0) in
-          let room = or-false _ _ (h .1 .1 .1 .1 .1 .1 .0) in
-          rw (posted-is m s)
-          (well-set (posted m s)
-            (good-posted slots s (w .good p hp) ready m
-              (allowed st m (h .1 .1 .0) (ltb-false (st .ceiling) (slotsFor st m) (h .1 .1 .1 .0)))
-              (ltb-false half _ (h .1 .1 .1 .1 .1 .0))
-              (ltb-false (st .ceiling) (length (s .packets) + slotsFor st m) (room .0)))
-            (rw (claim-posted m s ready) (ltb-false slots _ (room .1))))
-      well-accepted (emitting budget b) h =
-          rw (emitted-is budget (sideAt a p)) (well-less (emitted budget (sideAt a p)) (good-emitted slots (sideAt a p) (w .good p hp) (is-ready (h .1 .0)) budget))
-      well-accepted (acknowledging r y b) h =
-          well-less _ (good-acknowledge slots (sideAt a p) (w .good p hp) (is-ready (h .1 .0)) r y (leb-false psns r (or-false _ _ (h .1 .1 .0) .0)))
-      well-accepted (responding r o l b) h =
-          well-less _
-          (good-response slots (sideAt a p) (w .good p hp) (is-ready (h .1 .0)) r o l
-            (leb-false psns r (or-false _ _ (or-false _ _ (h .1 .1 .0) .0) .0)) (h .1 .1 .1 .1 .0))
-      well-accepted (ticking e b) h = well-less _ (good-timer slots (sideAt a p) (w .good p hp) (is-ready (h .1 .0)) e)
-      well-accepted (closing b) h =
-          rw (drop-of-length-le (sideAt a p .packets) {i = 0 + length (sideAt a p .packets)} (omega arith))
-          (well-less noSide (record { good = good-closed slots; less = omega arith }))
+    pub well-accepted : (q : Request) → Accepted card q p a → Well (set a p (sideAfter (effect q (sideAt a p)) (sideAt a p)))
+    well-accepted (opening st psn) h =
+        let z = eqb-true (sideAt a p .standing .state) 0 (not-false _ (h .state)) in
+        rw (empty (sideAt a p .packets) (w .good p hp .idle (λ e. omega arith)))
+        (well-set _
+        (good-opened card st psn (or-left _ _ (h .range)) (leb-false psns psn (or-right (badSettings card st) _ (h .range))))
+        (ltb-false _ _ (or-left _ _ (h .room))))
+    well-accepted (posting m) h =
+        let s = sideAt a p in
+        let st = s .standing .settings in
+        let ready = is-ready (h .state) in
+        rw (posted-is m s)
+        (well-set (posted m s)
+        (good-posted card s (w .good p hp) ready m
+        (record { in-range = h .range; in-ceiling = h .ceiling })
+        (ltb-false half _ (h .near))
+        (ltb-false (st .ceiling) (length (s .packets) + slotsFor st m) (or-left _ _ (h .room))))
+        (rw (claim-posted m s ready) (ltb-false (card .slots) _ (or-right (ltb (st .ceiling) (length (s .packets) + slotsFor st m)) _ (h .room)))))
+    well-accepted (emitting budget b) h =
+        rw (emitted-is budget (sideAt a p)) (well-less (emitted budget (sideAt a p)) (good-emitted card (sideAt a p) (w .good p hp) (is-ready (h .state)) budget))
+    well-accepted (acknowledging r y b) h =
+        well-less _ (good-acknowledge card (sideAt a p) (w .good p hp) (is-ready (h .state)) r y (leb-false psns r (or-left (badPsn r) _ (h .range))))
+    well-accepted (responding r o l b) h =
+        well-less _
+        (good-response card (sideAt a p) (w .good p hp) (is-ready (h .state)) r o l (leb-false psns r (or-left (badPsn r) _ (h .range))) (h .fits))
+    well-accepted (ticking e b) h = well-less _ (good-timer card (sideAt a p) (w .good p hp) (is-ready (h .state)) e)
+    well-accepted (closing b) h =
+        rw (drop-of-length-le (sideAt a p .packets) {i = 0 + length (sideAt a p .packets)} (omega arith))
+        (well-less noSide (record { good = good-closed card; less = omega arith }))

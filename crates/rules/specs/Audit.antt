@@ -1,82 +1,65 @@
--- The audit of the tables: document 01's six bullets, in its order.
+-- "The audit passes exactly if": document 01's six bullets, in its order.
 use mathlib.Core.Path.{_≡_}
-use mathlib.Core.Bool.{Bool, true}
-use mathlib.Core.List.{List, [], _∷_}
-use Prim.Native.Nat.{ℕ, _*_, _^_, _≤_, _<_}
+use mathlib.Core.Bool.{false}
+use mathlib.Core.List.{List, [], _∷_, _++_}
+use Prim.Native.Nat.{ℕ, _≤_, _<_}
 use lib.ListN.{length}
-use Rattle.rules.specs.declared.Packet.{Packet}
-use Rattle.rules.specs.declared.Settings.{Settings}
 use Rattle.psn.specs.Psn.{psns}
-use Rattle.rules.specs.Account.{Side, U, X, H, N}
-use Rattle.rules.specs.Slots.{Tables, side, sides, Whole}
+use Rattle.rules.specs.declared.Packet.{Packet}
+use Rattle.rules.specs.Card.{Card}
+use Rattle.rules.specs.Account.{Side, U, X, H, N, ready, ended}
+use Rattle.rules.specs.Ranges.{badSettings}
+use Rattle.rules.specs.Timer.{timeoutOf}
+use Rattle.rules.specs.Slots.{Tables, pairAt, queue, queues, idle, free, times, join, side, sides, Spells}
+use Rattle.rules.specs.Pool.{claimed, claims}
 use Rattle.rules.specs.Order.{Ordered}
-use Rattle.rules.specs.Messages.{Held}
-use Rattle.rules.specs.Shares.{claimed, claims}
+use Rattle.rules.specs.Messages.{Remaining}
 
 -- every packet of a list
 abbrev pub Each : (Packet → Type 0) → List Packet → Type 0
 Each P [] = Unit {0}
 Each P (p ∷ ps) = P p × Each P ps
 
--- ---- the second bullet, for an open pair
+-- "the tables have 64 and 256 records; each queue runs by its links from its first end to its last ..; each slot is in one pair's queue or the free queue,
+-- once; closed and ended pairs hold none; held counts are true"
+pub record Whole (card : Card) (t : Tables) : Type 0 where
+  pub pair-records : length (t .pairs) ≡ card .pairs
+  pub slot-records : length (t .slots) ≡ card .slots
+  pub pairs-run : (p : ℕ) → p < card .pairs → Spells (card .none) (t .slots) (pairAt (t .pairs) p .queue) (queue t p)
+  pub free-runs : Spells (card .none) (t .slots) (idle t) (free t)
+  pub once : (i : ℕ) → i < card .slots → times i (free t ++ join (queues t)) ≡ 1
+  pub idle-empty : (p : ℕ) → p < card .pairs → (pairAt (t .pairs) p .standing .state ≡ ready → ⊥) → pairAt (t .pairs) p .queue .held ≡ 0
 
--- far pair below 2^24; P_Key any 16 bits; PMTU code 1 to 5; share 1 to ceiling, ceiling at most the number of slots; retry and RNR retry 0 to 7; timeout code 0 to 31
-pub record InRange (slots : ℕ) (s : Settings) : Type 0 where
-  pub far : s .far < psns
-  pub pkey : s .pkey < 65536
-  pub pmtu-low : 1 ≤ s .pmtu
-  pub pmtu-high : s .pmtu ≤ 5
-  pub share-low : 1 ≤ s .share
-  pub share-high : s .share ≤ s .ceiling
-  pub ceiling : s .ceiling ≤ slots
-  pub retry : s .retry ≤ 7
-  pub rnr : s .rnr ≤ 7
-  pub timeout : s .timeout ≤ 31
-
-pub record Fair (slots : ℕ) (s : Side) : Type 0 where
-  pub settings : InRange slots (s .standing .settings)
-  -- PSNs and its slots' below 2^24
+-- "open pairs' settings are in range, their PSNs and their slots' below 2^24, counts left at most their settings, each held count at most its ceiling"
+pub record Bounded (card : Card) (s : Side) : Type 0 where
+  pub settings : badSettings card (s .standing .settings) ≡ false
   pub u-low : U s < psns
   pub x-low : X s < psns
   pub h-low : H s < psns
   pub n-low : N s < psns
   pub packets-low : Each (λ p. p .psn < psns) (s .packets)
-  -- counts left at most their settings
   pub retries : s .standing .clock .retries ≤ s .standing .settings .retry
   pub rnrs : s .standing .clock .rnrs ≤ s .standing .settings .rnr
-  -- the held count at most its ceiling
   pub held : length (s .packets) ≤ s .standing .settings .ceiling
 
--- ---- the fifth bullet, for a ready pair
-
--- the longest hold, in ns
-abbrev pub longest : ℕ
-longest = 655360000
-
-abbrev pub timeoutOf : Settings → ℕ
-timeoutOf s = 4096 * 2 ^ s .timeout
+-- "a ready pair's hold is at most 655,360,000 ns, its elapsed time below the timeout, and 0 if U = H, hold is over 0 or the timeout code is 0"
+abbrev pub longestHold : ℕ
+longestHold = 655360000
 
 pub record Timed (s : Side) : Type 0 where
-  pub hold : s .standing .clock .hold ≤ longest
+  pub hold : s .standing .clock .hold ≤ longestHold
   pub elapsed : s .standing .clock .elapsed < timeoutOf (s .standing .settings)
-  -- 0 if U = H, hold is over 0 or the timeout code is 0
   pub still : U s ≡ H s → s .standing .clock .elapsed ≡ 0
   pub on-hold : 0 < s .standing .clock .hold → s .standing .clock .elapsed ≡ 0
   pub untimed : s .standing .settings .timeout ≡ 0 → s .standing .clock .elapsed ≡ 0
 
--- ---- the audit. States: 0 closed, 1 ready, 2 ended; any other number fails
-
-module _ (none pairs slots : ℕ) where
-  pub record Audit (t : Tables) : Type 0 where
-    pub whole : Whole none pairs slots t
-    pub states : (p : ℕ) → p < pairs → side t p .standing .state ≤ 2
-    pub fair : (p : ℕ) → p < pairs → 0 < side t p .standing .state → Fair slots (side t p)
-    pub ordered : (p : ℕ) → p < pairs → side t p .standing .state ≡ 1 → Ordered (side t p)
-    pub messages : (p : ℕ) → p < pairs → Held (side t p .standing .settings) (side t p .packets)
-    pub timed : (p : ℕ) → p < pairs → side t p .standing .state ≡ 1 → Timed (side t p)
-    pub shares : claimed (claims (sides t)) ≤ slots
-
-  -- a test that gives the audit's answer
-  pub record Decides (passes : Tables → Bool) : Type 0 where
-    pub sound : (t : Tables) → passes t ≡ true → Audit t
-    pub complete : (t : Tables) → Audit t → passes t ≡ true
+pub record Audit (card : Card) (t : Tables) : Type 0 where
+  pub whole : Whole card t
+  -- "a pair is closed, ready or ended"
+  pub states : (p : ℕ) → p < card .pairs → side t p .standing .state ≤ ended
+  pub bounded : (p : ℕ) → p < card .pairs → 0 < side t p .standing .state → Bounded card (side t p)
+  pub ordered : (p : ℕ) → p < card .pairs → side t p .standing .state ≡ ready → Ordered (side t p)
+  pub messages : (p : ℕ) → p < card .pairs → Remaining (side t p .standing .settings) (side t p .packets)
+  pub timed : (p : ℕ) → p < card .pairs → side t p .standing .state ≡ ready → Timed (side t p)
+  -- "the sum over open pairs (ready or ended) of the larger of share and held is at most 256"
+  pub shares : claimed (claims (sides t)) ≤ card .slots

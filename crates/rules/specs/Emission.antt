@@ -1,72 +1,67 @@
 -- Emission: which packets go out, where X and H come to stand, and the records that are written.
 use mathlib.Core.List.{List, [], _∷_, _++_}
-use Prim.Native.Nat.{ℕ, _+_, _-_, _*_, min, _/_, _%_}
+use Prim.Native.Nat.{ℕ, _+_, _-_, _*_, _%_, min}
 use lib.Dec.{ltb}
 use lib.ListN.{length, take, drop}
+use Rattle.psn.specs.Psn.{distance, plus, before}
 use Rattle.refusal.specs.Choice.{if_then_else_}
+use Rattle.wire.specs.declared.Header.{Header}
+use Rattle.wire.specs.Bytes.{bytes}
+use Rattle.wire.specs.Opcodes.{headerLength}
+use Rattle.wire.specs.Header.{headerBytes, writeOf}
 use Rattle.rules.specs.declared.Packet.{Packet}
 use Rattle.rules.specs.declared.Settings.{Settings}
 use Rattle.rules.specs.declared.Standing.{Standing}
-use Rattle.psn.specs.Psn.{distance, plus, before}
-use Rattle.rules.specs.Account.{Side, U, X, H, N, ahead, isRead, span, pmtu}
-use Rattle.rules.specs.Split.{hasReth, hasImmediate}
-use Rattle.rules.specs.Rules.{further, unanswered}
+use Rattle.rules.specs.Account.{Side, U, X, H, N, ahead}
+use Rattle.rules.specs.Message.{pmtu, isRead, span}
+use Rattle.rules.specs.Release.{further, unanswered}
 
 -- where a record ends
 abbrev pub ends : Settings → Packet → ℕ
 ends s p = plus (p .psn) (span s p)
 
--- the records ending after X
+-- "the records ending after X": those from the first that does
 abbrev pub waiting : Side → List Packet
 waiting s = drop (ahead (λ p. before (U s) (X s) (ends (s .standing .settings) p)) (s .packets)) (s .packets)
 
--- how many go out: the smaller of the budget and the records ending after X; a held pair's are 0
+-- "the smaller of the budget and the records ending after X; a held pair writes 0"
 abbrev pub going : ℕ → Side → ℕ
 going budget s = if ltb 0 (s .standing .clock .hold) then 0 else min budget (length (waiting s))
 
--- X once k of these have gone out
+abbrev pub outgoing : ℕ → Side → List Packet
+outgoing budget s = take (going budget s) (waiting s)
+
+-- where the last of these ends: x, if there is none
 abbrev pub endsAt : Settings → ℕ → List Packet → ℕ
 endsAt s x [] = x
 endsAt s x (p ∷ ps) = endsAt s (ends s p) ps
 
--- X moves past them, H to the further of H and X
+-- "X moves past them, H to the further of H and X."
 unfoldable pub emitted : ℕ → Side → Side
 emitted budget s =
     let t = s .standing in
-    let x = endsAt (t .settings) (X s) (take (going budget s) (waiting s)) in
+    let x = endsAt (t .settings) (X s) (outgoing budget s) in
     record {
       standing =
-        record {
-          state = t .state;
-          settings = t .settings;
-          line = record { u = U s; x = x; h = further (U s) (H s) x; n = N s };
-          clock = t .clock };
-      packets = s .packets }
+          record {
+            state = t .state;
+            settings = t .settings;
+            line = record { u = U s; x = x; h = further (U s) (H s) x; n = N s };
+            clock = t .clock;
+          };
+      packets = s .packets;
+    }
 
 -- ---- the records
 
--- a header and a record of emission (the header and four numbers), in bytes
-abbrev pub headerBytes : ℕ
-headerBytes = 32
-
-abbrev pub recordBytes : ℕ
-recordBytes = headerBytes + 16
-
--- a big-endian 32-bit number
-abbrev pub bytes : ℕ → List ℕ
-bytes n = n / 16777216 % 256 ∷ n / 65536 % 256 ∷ n / 256 % 256 ∷ n % 256 ∷ []
-
--- BTH, 12 bytes; RETH, 16; immediate, 4
-abbrev pub headerLength : ℕ → ℕ
-headerLength op = 12 + (if hasReth op then 16 else 0) + (if hasImmediate op then 4 else 0)
-
--- a packet as it goes out. A read emitted at U after k responses carries PSN U, address + k × PMTU, length − k × PMTU;
--- its payload offset is the post's offset + k × PMTU, its payload length 0
+-- "A read emitted at U after k responses carries PSN U, address + k × PMTU, length − k × PMTU. Its payload offset is the post's offset + k × PMTU, its
+-- payload length 0."
 abbrev pub sent : Standing → Packet → Packet
 sent t p =
     let done = distance (p .psn) (unanswered t p) * pmtu (t .settings) in
     if isRead p
-    then record {
+    then
+    record {
       psn = unanswered t p;
       ticket = p .ticket;
       opcode = p .opcode;
@@ -75,16 +70,41 @@ sent t p =
       address = p .address + done;
       key = p .key;
       total = p .total - done;
-      value = p .value }
+      value = p .value;
+    }
     else p
 
-module _ (header : Settings → Packet → List ℕ) where
-  -- a record of emission: the header, then header length, ticket, payload offset, payload length
-  abbrev pub emission : Standing → Packet → List ℕ
-  emission t p =
-      let q = sent t p in
-      header (t .settings) q ++ bytes (headerLength (q .opcode)) ++ bytes (q .ticket) ++ bytes (q .offset) ++ bytes (q .length)
+-- "emission's pad fills the payload to a multiple of 4"
+abbrev pub padFor : ℕ → ℕ
+padFor len = (4 - len % 4) % 4
 
-  abbrev pub emissions : Standing → List Packet → List ℕ
-  emissions t [] = []
-  emissions t (p ∷ ps) = emission t p ++ emissions t ps
+-- the header of what goes out
+abbrev pub headerOf : Settings → Packet → Header
+headerOf s q =
+    record {
+      opcode = q .opcode;
+      pad = padFor (q .length);
+      pkey = s .pkey;
+      far = s .far;
+      psn = q .psn;
+      address = q .address;
+      key = q .key;
+      length = q .total;
+      value = q .value;
+      syndrome = 0;
+      msn = 0;
+    }
+
+-- "records of 48 bytes: 32 header bytes (zeros after the header), then four big-endian 32-bit numbers"
+abbrev pub recordBytes : ℕ
+recordBytes = headerBytes + 4 * 4
+
+-- "header length, ticket, payload offset, payload length"
+abbrev pub emission : Standing → Packet → List ℕ
+emission t p =
+    let q = sent t p in
+    writeOf (headerOf (t .settings) q) .bytes ++ bytes 4 (headerLength (q .opcode)) ++ bytes 4 (q .ticket) ++ bytes 4 (q .offset) ++ bytes 4 (q .length)
+
+abbrev pub emissions : Standing → List Packet → List ℕ
+emissions t [] = []
+emissions t (p ∷ ps) = emission t p ++ emissions t ps

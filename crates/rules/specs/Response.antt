@@ -1,17 +1,19 @@
--- Read responses.
-use mathlib.Core.Bool.{Bool, not, _&&_, _||_}
+-- "Read response R, with opcode and payload length".
+use mathlib.Core.Bool.{Bool, true, false, not, _&&_, _||_}
 use Prim.Native.Nat.{ℕ, suc, _+_, _*_}
 use lib.Dec.{ltb, leb, eqb}
 use lib.ListN.{length, getD}
+use Rattle.psn.specs.Psn.{distance, next}
 use Rattle.refusal.specs.Choice.{if_then_else_}
 use Rattle.rules.specs.declared.Packet.{Packet}
 use Rattle.rules.specs.declared.Settings.{Settings}
 use Rattle.rules.specs.declared.Standing.{Standing}
-use Rattle.rules.specs.declared.Answer.the-variants.{Done, Resending}
-use Rattle.psn.specs.Psn.{distance, plus}
-use Rattle.rules.specs.Account.{Side, U, ahead, nothing, isRead, span, pmtu}
-use Rattle.rules.specs.Split.{lengthAt}
-use Rattle.rules.specs.Rules.{release, Outcome, inside, dropped, further, renewed, resent}
+use Rattle.rules.specs.declared.Answer.the-variants.{Done}
+use Rattle.rules.specs.Account.{Side, U, noPacket, ahead}
+use Rattle.rules.specs.Message.{pmtu, lengthAt, isRead, span}
+use Rattle.rules.specs.Outcome.{Outcome, dropped}
+use Rattle.rules.specs.Release.{further, renewed, release}
+use Rattle.rules.specs.Acknowledge.{inside, resending}
 
 -- r is one of the read's PSNs
 abbrev pub covers : Settings → ℕ → Packet → Bool
@@ -19,23 +21,34 @@ covers s r p = isRead p && ltb (distance (p .psn) r) (span s p)
 
 -- the read that r belongs to
 abbrev pub readAt : ℕ → Side → Packet
-readAt r s = getD (s .packets) (ahead (covers (s .standing .settings) r) (s .packets)) nothing
+readAt r s = getD (s .packets) (ahead (covers (s .standing .settings) r) (s .packets)) noPacket
 
--- refusal 9: r is not in a read's PSNs, or the length is not what that place carries, or 15 or 16 is used other than exactly at the last place
+-- how many of its places are before r's; and r's is the last
+abbrev pub placesBefore : ℕ → Side → ℕ
+placesBefore r s = distance (readAt r s .psn) r
+
+abbrev pub atLast : ℕ → Side → Bool
+atLast r s = eqb (suc (placesBefore r s)) (span (s .standing .settings) (readAt r s))
+
+-- two tests that differ
+abbrev pub differ : Bool → Bool → Bool
+differ true b = not b
+differ false b = b
+
+-- 9: "if R is not in a read's PSNs, or the length is not what that place carries, or 15 or 16 is used other than exactly at the last place"
 abbrev pub unfit : ℕ → ℕ → ℕ → Side → Bool
 unfit r opcode len s =
     let st = s .standing .settings in
     let p = readAt r s in
-    let k = distance (p .psn) r in
     eqb (ahead (covers st r) (s .packets)) (length (s .packets))
-    || not (eqb len (lengthAt (pmtu st) (p .length) (span st p) k))
-    || not (eqb (if leb 15 opcode then 1 else 0) (if eqb (suc k) (span st p) then 1 else 0))
+    || not (eqb len (lengthAt (pmtu st) (p .length) (span st p) (placesBefore r s)))
+    || differ (leb 15 opcode) (atLast r s)
 
--- the payload's place: offset + k × PMTU for k places before it
+-- "the payload's place, offset + k × PMTU for k places before it"
 abbrev pub placeOf : ℕ → Side → ℕ
-placeOf r s = readAt r s .offset + distance (readAt r s .psn) r * pmtu (s .standing .settings)
+placeOf r s = readAt r s .offset + placesBefore r s * pmtu (s .standing .settings)
 
--- U becomes a, counts and elapsed return, X the further of X and U by distance from the U that the call found
+-- "U becomes R + 1, counts and elapsed return, X the further of X and U", by distance from the U that the call found
 abbrev pub taken : ℕ → ℕ → Standing → Standing
 taken found a t =
     let l = t .line in
@@ -43,17 +56,14 @@ taken found a t =
       state = t .state;
       settings = t .settings;
       line = record { u = a; x = further found (l .x) a; h = l .h; n = l .n };
-      clock = renewed (t .settings) (t .clock) }
+      clock = renewed (t .settings) (t .clock);
+    }
 
--- release before R. If stopped: X becomes U, elapsed 0, "resending". Else U becomes R + 1, counts and elapsed return, X the further of X and U,
--- "done"; at the last place the slot is released
+-- "Otherwise release before R. If stopped: X becomes U, elapsed 0, "resending". Else U becomes R + 1, .. "done" ..; at the last place the slot is released."
 unfoldable pub response : ℕ → Side → Outcome
 response r s =
     let g = release r s in
-    let c = g .standing .clock in
-    let p = readAt r s in
-    let last : ℕ = if eqb (suc (distance (p .psn) r)) (span (s .standing .settings) p) then 1 else 0 in
+    let last : ℕ = if atLast r s then 1 else 0 in
     if not (inside r s) then dropped s
-    else if g .stopped
-    then record { answer = Resending; released = g .released; flushed = 0; standing = resent (c .rnrs) (c .hold) (g .standing) }
-    else record { answer = Done; released = g .released + last; flushed = 0; standing = taken (U s) (plus r 1) (g .standing) }
+    else if g .stopped then resending g
+    else record { answer = Done; released = g .released + last; flushed = 0; standing = taken (U s) (next r) (g .standing) }

@@ -3,7 +3,7 @@ use mathlib.Core.Path.{_≡_}
 use mathlib.Core.List.{List, [], _∷_, _++_, map}
 use Prim.Native.Nat.{ℕ, zero, suc, _+_, _-_, _<_}
 use lib.Dec.{eqb}
-use lib.ListN.{length, getD, set, take, drop}
+use lib.ListN.{length, getD, set, take, drop, replicate}
 use Rattle.refusal.specs.Choice.{if_then_else_}
 use Rattle.rules.specs.declared.Packet.{Packet}
 use Rattle.rules.specs.declared.Standing.{Standing}
@@ -11,8 +11,11 @@ use Rattle.rules.specs.declared.Queue.{Queue}
 use Rattle.rules.specs.declared.Ends.{Ends}
 use Rattle.rules.specs.declared.Pair.{Pair}
 use Rattle.rules.specs.declared.Slot.{Slot}
-use Rattle.rules.specs.Account.{Side, nothing, noStanding}
+use Rattle.rules.specs.Card.{Card}
+use Rattle.rules.specs.Account.{Side, noPacket, noStanding}
+use Rattle.rules.specs.Message.{from}
 
+-- what the host lends
 pub record Tables : Type 0 where
   pub pairs : List Pair
   pub ends : Ends
@@ -21,7 +24,7 @@ pub record Tables : Type 0 where
 -- ---- records at a place; past the end of a table all is 0
 
 abbrev pub noSlot : Slot
-noSlot = record { link = 0; packet = nothing }
+noSlot = record { link = 0; packet = noPacket }
 
 abbrev pub noPair : Pair
 noPair = record { standing = noStanding; queue = record { first = 0; last = 0; held = 0 } }
@@ -39,23 +42,17 @@ abbrev pub follow : List Slot → ℕ → ℕ → List ℕ
 follow s at zero = []
 follow s at (suc k) = at ∷ follow s (slotAt s at .link) k
 
--- the slot numbers that a queue's record spells
+-- those that a queue's record spells
 abbrev pub spelled : List Slot → Queue → List ℕ
 spelled s q = follow s (q .first) (q .held)
 
--- how often a number stands in a list
-abbrev pub times : ℕ → List ℕ → ℕ
-times i [] = 0
-times i (a ∷ l) = (if eqb i a then 1 else 0) + times i l
-
-abbrev pub join : List (List ℕ) → List ℕ
-join [] = []
-join (l ∷ ls) = l ++ join ls
+abbrev pub queue : Tables → ℕ → List ℕ
+queue t p = spelled (t .slots) (pairAt (t .pairs) p .queue)
 
 abbrev pub queues : Tables → List (List ℕ)
 queues t = map (λ p. spelled (t .slots) (p .queue)) (t .pairs)
 
--- the free queue: its ends, and as many slots as no pair holds
+-- the free queue: the lent ends, and as many slots as no pair holds
 abbrev pub heldBy : List Pair → ℕ
 heldBy [] = 0
 heldBy (p ∷ ps) = p .queue .held + heldBy ps
@@ -66,21 +63,27 @@ idle t = record { first = t .ends .first; last = t .ends .last; held = length (t
 abbrev pub free : Tables → List ℕ
 free t = spelled (t .slots) (idle t)
 
-abbrev pub queue : Tables → ℕ → List ℕ
-queue t p = spelled (t .slots) (pairAt (t .pairs) p .queue)
+-- how often a number stands in a list
+abbrev pub times : ℕ → List ℕ → ℕ
+times i [] = 0
+times i (a ∷ l) = (if eqb i a then 1 else 0) + times i l
 
--- a pair's side of the account, read off the tables
+abbrev pub join : List (List ℕ) → List ℕ
+join [] = []
+join (l ∷ ls) = l ++ join ls
+
+-- ---- a pair's side of the account, read off the tables
+
 unfoldable pub sideOf : List Slot → Pair → Side
 sideOf s p = record { standing = p .standing; packets = map (λ i. slotAt s i .packet) (spelled s (p .queue)) }
 
 unfoldable pub side : Tables → ℕ → Side
 side t p = sideOf (t .slots) (pairAt (t .pairs) p)
 
--- all of them
 abbrev pub sides : Tables → List Side
 sides t = map (sideOf (t .slots)) (t .pairs)
 
--- ---- links
+-- ---- what is written to slots
 
 -- slot i with the link k
 unfoldable pub relinked : ℕ → ℕ → List Slot → List Slot
@@ -102,6 +105,7 @@ Below n [] = Unit {0}
 Below n (a ∷ l) = (a < n) × Below n l
 
 module _ (none : ℕ) where
+  -- "256 stands for no slot, in a last link and at an empty queue's ends"
   abbrev pub firstOf : List ℕ → ℕ
   firstOf [] = none
   firstOf (a ∷ l) = a
@@ -124,7 +128,7 @@ module _ (none : ℕ) where
   Linked s [] = Unit {0}
   Linked s (a ∷ l) = (slotAt s a .link ≡ firstOf l) × Linked s l
 
-  -- a queue's record and the links spell the list
+  -- a queue's record and the links spell the list: it "runs by its links from its first end to its last"
   pub record Spells (s : List Slot) (q : Queue) (l : List ℕ) : Type 0 where
     pub first : q .first ≡ firstOf l
     pub last : q .last ≡ lastOf l
@@ -138,26 +142,25 @@ module _ (none : ℕ) where
       record {
         pairs = set (t .pairs) p (record { standing = standing; queue = endsOf held });
         ends = record { first = firstOf rest; last = lastOf rest };
-        slots = chain rest (chain held slots) }
+        slots = chain rest (chain held slots);
+      }
 
-  -- k slots leave pair p, from the front, and join the free queue's end
+  -- "released and flushed slots join its end in PSN order": k slots leave pair p, from the front. "A freed slot keeps all but its link."
   abbrev pub freed : ℕ → Standing → ℕ → Tables → Tables
   freed p standing k t = arranged p standing (drop k (queue t p)) (free t ++ take k (queue t p)) (t .slots) t
 
-  -- packets are stored in slots from the free queue's front, which join pair p's end
+  -- "The free queue is first in, first out": packets are stored in slots from its front, which join pair p's end
   abbrev pub stored : ℕ → Standing → List Packet → Tables → Tables
   stored p standing qs t =
       let took = take (length qs) (free t) in
       arranged p standing (queue t p ++ took) (drop (length qs) (free t)) (filled took qs (t .slots)) t
 
-  -- ---- the audit's first bullet
-  pub record Whole (pairs slots : ℕ) (t : Tables) : Type 0 where
-    pub pair-records : length (t .pairs) ≡ pairs
-    pub slot-records : length (t .slots) ≡ slots
-    -- each queue runs by its links from its first end to its last
-    pub pairs-run : (p : ℕ) → p < pairs → Spells (t .slots) (pairAt (t .pairs) p .queue) (queue t p)
-    pub free-runs : Spells (t .slots) (idle t) (free t)
-    -- each slot is in one pair's queue or the free queue, once
-    pub once : (i : ℕ) → i < slots → times i (free t ++ join (queues t)) ≡ 1
-    -- closed and ended pairs hold none
-    pub idle-empty : (p : ℕ) → p < pairs → (pairAt (t .pairs) p .standing .state ≡ 1 → ⊥) → pairAt (t .pairs) p .queue .held ≡ 0
+-- "A fresh start closes all pairs, zeroes all fields but links and frees slots 0 to 255 in that order."
+unfoldable pub fresh : Card → Tables
+fresh card =
+    let all = from 0 (card .slots) in
+    record {
+      pairs = replicate (card .pairs) (record { standing = noStanding; queue = endsOf (card .none) [] });
+      ends = record { first = firstOf (card .none) all; last = lastOf (card .none) all };
+      slots = chain (card .none) all (replicate (card .slots) noSlot);
+    }

@@ -1,15 +1,20 @@
--- Timer steps.
+-- "Timer step with elapsed e".
 use mathlib.Core.Bool.{_||_}
 use Prim.Native.Nat.{ℕ, _+_, _-_, _*_, _^_}
 use lib.Dec.{ltb, leb, eqb}
-use lib.ListN.{length}
 use Rattle.refusal.specs.Choice.{if_then_else_}
+use Rattle.rules.specs.declared.Settings.{Settings}
 use Rattle.rules.specs.declared.Standing.{Standing}
 use Rattle.rules.specs.declared.Answer.{Answer}
-use Rattle.rules.specs.declared.Answer.the-variants.{Resending, Resumed, Idle, Ended}
+use Rattle.rules.specs.declared.Answer.the-variants.{Resending, Resumed, Idle}
 use Rattle.rules.specs.Account.{Side, U, H}
-use Rattle.rules.specs.Rules.{Outcome, over}
+use Rattle.rules.specs.Outcome.{Outcome, ending}
 
+-- "4,096 × 2^code ns"
+abbrev pub timeoutOf : Settings → ℕ
+timeoutOf s = 4096 * 2 ^ s .timeout
+
+-- the two times become these
 abbrev pub ticked : Answer → ℕ → ℕ → Standing → Outcome
 ticked a elapsed hold t =
     record {
@@ -17,38 +22,39 @@ ticked a elapsed hold t =
       released = 0;
       flushed = 0;
       standing =
-        record {
-          state = t .state;
-          settings = t .settings;
-          line = t .line;
-          clock = record { retries = t .clock .retries; rnrs = t .clock .rnrs; elapsed = elapsed; hold = hold } } }
+          record {
+            state = t .state;
+            settings = t .settings;
+            line = t .line;
+            clock = record { retries = t .clock .retries; rnrs = t .clock .rnrs; elapsed = elapsed; hold = hold };
+          };
+    }
 
--- end the pair: all it holds is flushed
-abbrev pub ending : Side → Outcome
-ending s = record { answer = Ended; released = 0; flushed = length (s .packets); standing = over (s .standing) }
-
--- take one retry, X becomes U, elapsed 0
+-- "take one, X becomes U, elapsed 0, "resending""
 abbrev pub retried : Standing → Outcome
 retried t =
+    let l = t .line in
     record {
       answer = Resending;
       released = 0;
       flushed = 0;
       standing =
-        record {
-          state = t .state;
-          settings = t .settings;
-          line = record { u = t .line .u; x = t .line .u; h = t .line .h; n = t .line .n };
-          clock = record { retries = t .clock .retries - 1; rnrs = t .clock .rnrs; elapsed = 0; hold = t .clock .hold } } }
+          record {
+            state = t .state;
+            settings = t .settings;
+            line = record { u = l .u; x = l .u; h = l .h; n = l .n };
+            clock = record { retries = t .clock .retries - 1; rnrs = t .clock .rnrs; elapsed = 0; hold = t .clock .hold };
+          };
+    }
 
--- Held: if e is at least the hold, it ends, "resumed"; else subtract, "idle". Not held: if U = H or timeout code 0, "idle". Else add e; if below
--- 4,096 × 2^code ns, "idle"; else if the retry count is 0, end the pair; else take one, X becomes U, elapsed 0, "resending"
+-- "Held: if e is at least the hold, it ends, "resumed"; else subtract, "idle". Not held: if U = H or timeout code 0, "idle". Else add e; if below
+-- 4,096 × 2^code ns, "idle"; else if the retry count is 0, end the pair, "ended"; else take one, X becomes U, elapsed 0, "resending"."
 unfoldable pub timer : ℕ → Side → Outcome
 timer e s =
     let t = s .standing in
     let c = t .clock in
     if ltb 0 (c .hold) then (if leb (c .hold) e then ticked Resumed (c .elapsed) 0 t else ticked Idle (c .elapsed) (c .hold - e) t)
     else if eqb (U s) (H s) || eqb (t .settings .timeout) 0 then ticked Idle (c .elapsed) (c .hold) t
-    else if ltb (c .elapsed + e) (4096 * 2 ^ t .settings .timeout) then ticked Idle (c .elapsed + e) (c .hold) t
+    else if ltb (c .elapsed + e) (timeoutOf (t .settings)) then ticked Idle (c .elapsed + e) (c .hold) t
     else if eqb (c .retries) 0 then ending s
     else retried t

@@ -1,0 +1,86 @@
+-- Acknowledgements: ACK, NAK, RNR.
+use mathlib.Core.Bool.{Bool, not, _&&_}
+use mathlib.Core.List.{List, [], _∷_}
+use Prim.Native.Nat.{ℕ, _-_, _*_}
+use lib.Dec.{ltb, leb, eqb}
+use lib.ListN.{length, getD}
+use Rattle.psn.specs.Psn.{distance, next}
+use Rattle.refusal.specs.Choice.{if_then_else_}
+use Rattle.rules.specs.declared.Standing.{Standing}
+use Rattle.rules.specs.declared.Answer.{Answer}
+use Rattle.rules.specs.declared.Answer.the-variants.{Done, Resending, Held, Ended}
+use Rattle.rules.specs.Account.{Side, U, H}
+use Rattle.rules.specs.Ranges.{topBits, lowBits}
+use Rattle.rules.specs.Outcome.{Outcome, dropped, over}
+use Rattle.rules.specs.Release.{Release, release}
+
+-- "An event for PSN R ... answers "dropped", nothing changed, unless the distance U to R is less than U to H."
+abbrev pub inside : ℕ → Side → Bool
+inside r s = ltb (distance (U s) r) (distance (U s) (H s))
+
+-- X becomes U, elapsed 0; the RNR count and the hold as given
+abbrev pub resent : ℕ → ℕ → Standing → Standing
+resent rnrs hold t =
+    let l = t .line in
+    record {
+      state = t .state;
+      settings = t .settings;
+      line = record { u = l .u; x = l .u; h = l .h; n = l .n };
+      clock = record { retries = t .clock .retries; rnrs = rnrs; elapsed = 0; hold = hold };
+    }
+
+-- a release, and then "X becomes U, elapsed 0, "resending""
+abbrev pub resending : Release → Outcome
+resending g =
+    let c = g .standing .clock in
+    record { answer = Resending; released = g .released; flushed = 0; standing = resent (c .rnrs) (c .hold) (g .standing) }
+
+-- "000, ACK: release before R + 1. If stopped, X becomes U, elapsed 0, answer "resending"; else "done"."
+abbrev pub ack : ℕ → Side → Outcome
+ack r s =
+    let g = release (next r) s in
+    if g .stopped
+    then resending g
+    else record { answer = Done; released = g .released; flushed = 0; standing = g .standing }
+
+-- "011, NAK codes 0, 1, 2: release before R, X becomes U, elapsed 0, "resending"."
+abbrev pub nak : ℕ → Side → Outcome
+nak r s = resending (release r s)
+
+-- "011 code 3: release before R, then end the pair, "ended"."
+abbrev pub final : ℕ → Side → Outcome
+final r s =
+    let g = release r s in
+    record { answer = Ended; released = g .released; flushed = length (s .packets) - g .released; standing = over (g .standing) }
+
+-- "001, RNR: release before R. With RNR retry set below 7: a count of 0 ends the pair, "ended"; a higher one drops by one. Unless ended, X becomes U,
+-- elapsed 0, hold for the wait of the low five bits (replacing any hold), "held"."
+abbrev pub rnr : ℕ → ℕ → Side → Outcome
+rnr r wait s =
+    let g = release r s in
+    let c = g .standing .clock in
+    let counts = ltb (s .standing .settings .rnr) 7 in
+    let left = if counts then c .rnrs - 1 else c .rnrs in
+    if counts && eqb (c .rnrs) 0
+    then final r s
+    else record { answer = Held; released = g .released; flushed = 0; standing = resent left wait (g .standing) }
+
+-- "The thirty-two RNR waits, IB, in units of 10,000 ns, codes 0 to 31"
+abbrev pub waits : List ℕ
+waits =
+    65536 ∷ 1 ∷ 2 ∷ 3 ∷ 4 ∷ 6 ∷ 8 ∷ 12 ∷ 16 ∷ 24 ∷ 32 ∷ 48 ∷ 64 ∷ 96 ∷ 128 ∷ 192
+    ∷ 256 ∷ 384 ∷ 512 ∷ 768 ∷ 1024 ∷ 1536 ∷ 2048 ∷ 3072 ∷ 4096 ∷ 6144 ∷ 8192 ∷ 12288 ∷ 16384 ∷ 24576 ∷ 32768 ∷ 49152
+    ∷ []
+
+abbrev pub waitOf : ℕ → ℕ
+waitOf low = 10000 * getD waits low 0
+
+-- by the syndrome's top bits; one that is none of these was refused, by 3
+unfoldable pub acknowledge : ℕ → ℕ → Side → Outcome
+acknowledge r syndrome s =
+    let low = lowBits syndrome in
+    if not (inside r s) then dropped s
+    else if eqb (topBits syndrome) 0 then ack r s
+    else if eqb (topBits syndrome) 1 then rnr r (waitOf low) s
+    else if leb low 2 then nak r s
+    else final r s
