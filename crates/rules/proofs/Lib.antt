@@ -31,3 +31,4 @@ pub mod Fits
 pub mod Cards
 pub mod Completions
 pub mod Upward
+pub mod Passes

@@ -1,10 +1,12 @@
 -- What the tests for 3 and 5 say where they fail, as inequalities.
 use mathlib.Core.Path.{_≡_, refl}
-use mathlib.Core.Bool.{Bool, true, false, true≢false}
+use mathlib.Core.Bool.{Bool, true, false, _&&_, true≢false}
 use mathlib.Core.List.{List, [], _∷_}
 use Prim.Native.Nat.{ℕ, _+_, _^_, _≤_, _<_}
 use native.Mathlib.Omega.{arith}
-use borrow.Author.Tests.{ltb-false, leb-false, eq-eqb, lt-ltb}
+use lib.Dec.{eqb, ltb}
+use borrow.Author.Tests.{ltb-true, ltb-false, leb-false, eqb-true, eq-eqb, lt-ltb, lt-leb, le-ltb}
+use Rattle.refusal.proofs.Cases.{by-test}
 use Rattle.psn.specs.Psn.{psns}
 use Rattle.refusal.specs.Choice.{anyOf}
 use Rattle.rules.specs.declared.Settings.{Settings}
@@ -62,3 +64,36 @@ permitted {s} {m} a =
           λ k l. ltb-false (2 ^ 64) (m .address + m .length) (rw (lt-ltb 0 (m .kind) k, lt-ltb 0 (m .length) l) at (h .1 .1 .1 .1 .1 .0));
       room = ltb-false (s .ceiling) (slotsFor s m) (a .in-ceiling);
     }
+
+-- and back
+fail-all : (ts : List Bool) → NoneOf ts → anyOf ts ≡ false
+fail-all [] h = refl
+fail-all (t ∷ ts) h = rw (h .0) (fail-all ts (h .1))
+
+pub allow : {s : Settings} {m : Post} → Permitted s m → Allowed s m
+unfolding badPost
+allow {s} {m} a =
+    record {
+      in-range =
+          fail-all (postFaults m)
+          ( le-ltb 2 (m .kind) (a .kind)
+          , (read
+          , (lt-leb (2 ^ 31) (m .length) (a .short)
+          , (lt-leb (2 ^ 32) (m .offset) (a .offset)
+          , (le-ltb (2 ^ 32) (m .offset + m .length) (a .fits)
+          , (reach
+          , tt))))));
+      in-ceiling = le-ltb (s .ceiling) (slotsFor s m) (a .room);
+    }
+  where
+    read : (eqb (m .kind) 2 && m .immediate) ≡ false
+    read = by-test (eqb (m .kind) 2) (λ e. rw (e, a .plain-read (eqb-true (m .kind) 2 e))) (λ e. rw e)
+
+    reach : (ltb 0 (m .kind) && ltb 0 (m .length) && ltb (2 ^ 64) (m .address + m .length)) ≡ false
+    reach =
+        by-test (ltb 0 (m .kind))
+        (λ e.
+        by-test (ltb 0 (m .length))
+        (λ f. rw (e, f, le-ltb (2 ^ 64) (m .address + m .length) (a .reach (ltb-true 0 (m .kind) e) (ltb-true 0 (m .length) f))))
+        (λ f. rw (e, f)))
+        (λ e. rw e)

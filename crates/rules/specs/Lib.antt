@@ -14,6 +14,7 @@ pub mod Pool
 pub mod Order
 pub mod Messages
 pub mod Audit
+pub mod Passes
 pub mod Requests
 pub mod Refusals
 pub mod Calls
