@@ -21,7 +21,8 @@ use Rattle.rules.specs.Response.{response}
 use Rattle.rules.specs.Timer.{timer}
 use Rattle.rules.specs.Emission.{waiting, going, outgoing, sent, headerOf, recordBytes, emission, emissions}
 use Rattle.rules.specs.Slots.{Tables, sides}
-use Rattle.rules.proofs.Decides.{Decides}
+use Rattle.rules.specs.Passes.Tables.{passes}
+use Rattle.rules.proofs.Passes.Decided.{sound, complete}
 use Rattle.rules.specs.Requests.{Request, opening, posting, emitting, acknowledging, responding, ticking, closing, on, lent}
 use Rattle.rules.specs.Refusals.{sideAt, refusals}
 use Rattle.rules.specs.Calls.{written, effect, call}
@@ -83,13 +84,13 @@ module _ (card : Card) (a : List Side) (w : Well card a) (p : ℕ) where
   buffer-kept (closing b) h = events (closure (sideAt a p)) b (h .pair) (omega (arith, eqb-false (sideAt a p .standing .state) 0 (h .state))) (h .buffer)
 
 -- whatever the tables, a call leaves the buffer as long as it was
-pub call-buffer : (card : Card) (passes : Tables → Bool) → Decides card passes
-    → (t : Tables) (p : ℕ) (q : Request) → length (call card passes (on p q) t .said .buffer) ≡ length (lent q)
+pub call-buffer : (card : Card)
+    → (t : Tables) (p : ℕ) (q : Request) → length (call card (on p q) t .said .buffer) ≡ length (lent q)
 unfolding call
-call-buffer card passes test t p q =
-    by-test (passes t)
+call-buffer card t p q =
+    by-test (passes card t)
     (λ e. rw e
       (by-test (eqb (firstGiven (refusals card q p (sides t))) 0)
-        (λ z. rw z (buffer-kept card (sides t) (well-of card t (test .sound t e)) p q (accepted card q p (sides t) z)))
+        (λ z. rw z (buffer-kept card (sides t) (well-of card t (sound card t e)) p q (accepted card q p (sides t) z)))
         (λ z. rw z)))
     (λ e. rw e)

@@ -1,6 +1,6 @@
 -- Every call, on any tables: it is refused and changes nothing, or it leaves audited tables in which only its pair has moved.
 use mathlib.Core.Path.{_≡_, refl, sym, ap, _∙_}
-use mathlib.Core.Logic.{_≢_}
+use mathlib.Core.Logic.{_≢_, _↔_}
 use mathlib.Core.Bool.{Bool, false, not, _&&_}
 use mathlib.Core.List.{List, [], _∷_}
 use Prim.Native.Nat.{ℕ, _/_, _%_, _<_, _≤_}
@@ -23,7 +23,8 @@ use Rattle.rules.specs.Acknowledge.{inside, acknowledge}
 use Rattle.rules.specs.Response.{response}
 use Rattle.rules.specs.Slots.{Tables, pairAt, sideOf, side, sides, freed}
 use Rattle.rules.specs.Audit.{Whole, Audit}
-use Rattle.rules.proofs.Decides.{Decides}
+use Rattle.rules.specs.Passes.Tables.{passes}
+use Rattle.rules.proofs.Passes.Decided.{sound, complete}
 use Rattle.rules.specs.Requests.{Request, opening, posting, emitting, acknowledging, responding, ticking, closing, Call, starting, on, lent}
 use Rattle.rules.specs.Refusals.{sideAt, refusals}
 use Rattle.rules.specs.Calls.{effect, sideAfter, refuse, Step, account, call}
@@ -75,7 +76,7 @@ drop-response r s =
 
 -- ---- a refusal changes nothing, whatever the tables
 
-module _ (card : Card) (passes : Tables → Bool) (t : Tables) (n : ℕ) where
+module _ (card : Card) (t : Tables) (n : ℕ) where
   no-refusal : (q : Request) (s : Side) → effect q s .reply ≢ Refused n
   no-refusal (opening st psn) s e = let z : _≡_ {A = ℕ} 0 1 = cc in omega arith
   no-refusal (posting m) s e = let z : _≡_ {A = ℕ} 0 1 = cc in omega arith
@@ -85,15 +86,15 @@ module _ (card : Card) (passes : Tables → Bool) (t : Tables) (n : ℕ) where
   no-refusal (ticking k b) s e = let z : _≡_ {A = ℕ} 0 1 = cc in omega arith
   no-refusal (closing b) s e = let z : _≡_ {A = ℕ} 0 1 = cc in omega arith
 
-  pub unchanged : (p : ℕ) (q : Request) → call card passes (on p q) t .said .reply ≡ Refused n
-      → (call card passes (on p q) t .next ≡ t) × (call card passes (on p q) t .said .buffer ≡ lent q)
+  pub unchanged : (p : ℕ) (q : Request) → call card (on p q) t .said .reply ≡ Refused n
+      → (call card (on p q) t .next ≡ t) × (call card (on p q) t .said .buffer ≡ lent q)
   unfolding call
   unchanged p q =
-      by-test (eqb (firstGiven (not (passes t) gives 15 ∷ refusals card q p (sides t))) 0)
+      by-test (eqb (firstGiven (not (passes card t) gives 15 ∷ refusals card q p (sides t))) 0)
       (λ e. rw e (λ r. absurd (no-refusal q (sideAt (sides t) p) r)))
       (λ e. rw e (λ r. (refl, refl)))
 
-  pub unchanged-start : call card passes starting t .said .reply ≡ Refused n → call card passes starting t .next ≡ t
+  pub unchanged-start : call card starting t .said .reply ≡ Refused n → call card starting t .next ≡ t
   unfolding call
   unchanged-start =
       by-test (eqb (length (t .pairs)) (card .pairs) && eqb (length (t .slots)) (card .slots))
@@ -112,50 +113,50 @@ given-low (l ∷ ls) h = if-case (λ (n : ℕ). n ≤ 9) (l .holds) (λ _. h .0)
 low-numbers : (card : Card) (p : ℕ) (a : List Side) (q : Request) → Low (refusals card q p a)
 low-numbers card p a q = omega arith
 
--- any two tests that decide the audit give the same: a call is fixed
-pub one-test : (card : Card) (f g : Tables → Bool) → Decides card f → Decides card g → (t : Tables) → f t ≡ g t
-one-test card f g a b t =
+-- any test that decides the audit gives what ours gives: a call's answer does not hang on how the test goes about it
+pub one-test : (card : Card) (f : Tables → Bool) → ((t : Tables) → f t ≡ true ↔ Audit card t) → (t : Tables) → f t ≡ passes card t
+one-test card f d t =
     by-test (f t)
-    (λ e. e ∙ sym (b .complete t (a .sound t e)))
-    (λ e. by-test (g t) (λ h. a .complete t (b .sound t h) ∙ sym h) (λ h. e ∙ sym h))
+    (λ e. e ∙ sym (complete card t (d t .0 e)))
+    (λ e. by-test (passes card t) (λ h. d t .1 (sound card t h) ∙ sym h) (λ h. e ∙ sym h))
 
-module _ (card : Card) (passes : Tables → Bool) where
+module _ (card : Card) where
   -- 15 comes first, and leaves all as it is
-  pub unaudited : (t : Tables) (p : ℕ) (q : Request) → passes t ≡ false → call card passes (on p q) t ≡ refuse 15 (lent q) t
+  pub unaudited : (t : Tables) (p : ℕ) (q : Request) → passes card t ≡ false → call card (on p q) t ≡ refuse 15 (lent q) t
   unfolding call
   unaudited t p q e = rw e
 
-  module _ (test : Decides card passes) (t : Tables) (p : ℕ) where
+  module _ (t : Tables) (p : ℕ) where
     -- a dropped event changes nothing
-    pub dropped-acknowledge : (r y : ℕ) (b : List ℕ) (k j : ℕ) → call card passes (on p (acknowledging r y b)) t .said .reply ≡ Answered Dropped k j
-        → (call card passes (on p (acknowledging r y b)) t .next ≡ t) × (call card passes (on p (acknowledging r y b)) t .said .buffer ≡ b)
+    pub dropped-acknowledge : (r y : ℕ) (b : List ℕ) (k j : ℕ) → call card (on p (acknowledging r y b)) t .said .reply ≡ Answered Dropped k j
+        → (call card (on p (acknowledging r y b)) t .next ≡ t) × (call card (on p (acknowledging r y b)) t .said .buffer ≡ b)
     unfolding call
     dropped-acknowledge r y b k j =
-        by-test (passes t)
+        by-test (passes card t)
         (λ e. rw e (by-test (eqb (firstGiven (refusals card (acknowledging r y b) p (sides t))) 0)
           (λ z. rw z (λ d.
             let h = accepted card (acknowledging r y b) p (sides t) z .pair in
-            rw (drop-acknowledge r y (sideAt (sides t) p) (cc)) (nothing-moves card t (test .sound t e .whole) p h, refl)))
+            rw (drop-acknowledge r y (sideAt (sides t) p) (cc)) (nothing-moves card t (sound card t e .whole) p h, refl)))
           (λ z. rw z (λ d. (refl, refl)))))
         (λ e. rw e (λ d. (refl, refl)))
 
-    pub dropped-response : (r o l : ℕ) (b : List ℕ) (k j : ℕ) → call card passes (on p (responding r o l b)) t .said .reply ≡ Answered Dropped k j
-        → (call card passes (on p (responding r o l b)) t .next ≡ t) × (call card passes (on p (responding r o l b)) t .said .buffer ≡ b)
+    pub dropped-response : (r o l : ℕ) (b : List ℕ) (k j : ℕ) → call card (on p (responding r o l b)) t .said .reply ≡ Answered Dropped k j
+        → (call card (on p (responding r o l b)) t .next ≡ t) × (call card (on p (responding r o l b)) t .said .buffer ≡ b)
     unfolding call
     dropped-response r o l b k j =
-        by-test (passes t)
+        by-test (passes card t)
         (λ e. rw e (by-test (eqb (firstGiven (refusals card (responding r o l b) p (sides t))) 0)
           (λ z. rw z (λ d.
             let h = accepted card (responding r o l b) p (sides t) z .pair in
-            rw (drop-response r (sideAt (sides t) p) (cc)) (nothing-moves card t (test .sound t e .whole) p h, refl)))
+            rw (drop-response r (sideAt (sides t) p) (cc)) (nothing-moves card t (sound card t e .whole) p h, refl)))
           (λ z. rw z (λ d. (refl, refl)))))
         (λ e. rw e (λ d. (refl, refl)))
 
   -- ---- from audited tables: audited after, the called pair by its rule, the others as they were
 
-  module _ (test : Decides card passes) (t : Tables) (a : Audit card t) where
-    pub stays-audited : (c : Call) → Audit card (call card passes c t .next)
-    stays-audited c = agrees card passes test c t a .audit
+  module _ (t : Tables) (a : Audit card t) where
+    pub stays-audited : (c : Call) → Audit card (call card c t .next)
+    stays-audited c = agrees card c t a .audit
 
     others-account : (p : ℕ) (q : Request) (r : ℕ) → r ≢ p → sideAt (account card (on p q) (sides t) .next) r ≡ sideAt (sides t) r
     unfolding account
@@ -163,10 +164,10 @@ module _ (card : Card) (passes : Tables → Bool) where
         if-case (λ (s : Step (List Side)). sideAt (s .next) r ≡ sideAt (sides t) r) (eqb (firstGiven (refusals card q p (sides t))) 0)
         (λ _. side-other (sides t) p r _ d) (λ _. refl)
 
-    pub others : (p : ℕ) (q : Request) (r : ℕ) → r ≢ p → side (call card passes (on p q) t .next) r ≡ side t r
+    pub others : (p : ℕ) (q : Request) (r : ℕ) → r ≢ p → side (call card (on p q) t .next) r ≡ side t r
     others p q r d =
-        sym (side-at (call card passes (on p q) t .next) r)
-        ∙ ap (λ (l : List Side). sideAt l r) (agrees card passes test (on p q) t a .same)
+        sym (side-at (call card (on p q) t .next) r)
+        ∙ ap (λ (l : List Side). sideAt l r) (agrees card (on p q) t a .same)
         ∙ others-account p q r d
         ∙ side-at t r
 
@@ -176,18 +177,18 @@ module _ (card : Card) (passes : Tables → Bool) where
     called-account p q h e = rw e (side-same (sides t) p _ (omega (arith, well-of card t a .count)))
 
     pub called : (p : ℕ) (q : Request) → p < card .pairs → firstGiven (refusals card q p (sides t)) ≡ 0
-        → side (call card passes (on p q) t .next) p ≡ sideAfter (effect q (side t p)) (side t p)
+        → side (call card (on p q) t .next) p ≡ sideAfter (effect q (side t p)) (side t p)
     called p q h e =
-        sym (side-at (call card passes (on p q) t .next) p)
-        ∙ ap (λ (l : List Side). sideAt l p) (agrees card passes test (on p q) t a .same)
+        sym (side-at (call card (on p q) t .next) p)
+        ∙ ap (λ (l : List Side). sideAt l p) (agrees card (on p q) t a .same)
         ∙ called-account p q h e
         ∙ ap (λ (s : Side). sideAfter (effect q s) s) (side-at t p)
 
     -- 15 is never given: refusals are 1 to 9
-    pub numbers : (p : ℕ) (q : Request) (n : ℕ) → call card passes (on p q) t .said .reply ≡ Refused n → n ≤ 9
+    pub numbers : (p : ℕ) (q : Request) (n : ℕ) → call card (on p q) t .said .reply ≡ Refused n → n ≤ 9
     unfolding call
     numbers p q n =
-        rw (test .complete t a)
+        rw (complete card t a)
         (by-test (eqb (firstGiven (refusals card q p (sides t))) 0)
-          (λ e. rw e (λ r. absurd (no-refusal card passes t n q (sideAt (sides t) p) r)))
+          (λ e. rw e (λ r. absurd (no-refusal card t n q (sideAt (sides t) p) r)))
           (λ e. rw e (λ r. omega (arith, given-low (refusals card q p (sides t)) (low-numbers card p (sides t) q), refused-inj r))))

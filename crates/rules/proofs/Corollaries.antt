@@ -28,7 +28,8 @@ use Rattle.rules.specs.Slots.{Tables, slotAt, free, queue, times, sideOf
 use Rattle.rules.specs.Order.{_or_, left, right}
 use Rattle.rules.proofs.InOrder.{RunsLow, InOrder, audited-order}
 use Rattle.rules.specs.Audit.{Audit, Each}
-use Rattle.rules.proofs.Decides.{Decides}
+use Rattle.rules.specs.Passes.Tables.{passes}
+use Rattle.rules.proofs.Passes.Decided.{sound, complete}
 use Rattle.rules.specs.Requests.{acknowledging, on}
 use Rattle.rules.specs.Refusals.{sideAt, refusals}
 use Rattle.rules.specs.Calls.{call}
@@ -138,24 +139,24 @@ record Taken (card : Card) (t n : Tables) (p r : ℕ) : Type 0 where
   clear : release (plus r 1) (side t p) .stopped ≡ false
   next : (standing : Standing) × (n ≡ freed (card .none) p standing (release (plus r 1) (side t p) .released) t)
 
-module _ (card : Card) (passes : Tables → Bool) (test : Decides card passes)
+module _ (card : Card)
     (t : Tables) (p r y : ℕ) (b : List ℕ) (messages place : ℕ) where
 
   gone : Clean r (side t p) (acknowledge r y (side t p))
       → acknowledge r y (sideAt (sides t) p) .released + acknowledge r y (sideAt (sides t) p) .flushed ≡ release (plus r 1) (side t p) .released
   gone c = rw (side-at t p) (omega (arith, c .released, c .flushed))
 
-  was-taken : call card passes (on p (acknowledging r y b)) t .said .reply ≡ Answered Done messages place
-      → Taken card t (call card passes (on p (acknowledging r y b)) t .next) p r
+  was-taken : call card (on p (acknowledging r y b)) t .said .reply ≡ Answered Done messages place
+      → Taken card t (call card (on p (acknowledging r y b)) t .next) p r
   unfolding call
   was-taken =
-      by-test (passes t)
+      by-test (passes card t)
       (λ e. rw e (by-test (eqb (firstGiven (refusals card (acknowledging r y b) p (sides t))) 0)
         (λ q. rw q (λ d.
           let h = accepted card (acknowledging r y b) p (sides t) q in
           let c = rw (side-at t p) at (clean r y (sideAt (sides t) p) (cc)) in
           record {
-            audit = test .sound t e;
+            audit = sound card t e;
             low = h .pair;
             ready = rw (side-at t p) at (is-ready {x = sideAt (sides t) p .standing .state} (h .state));
             psn = leb-false psns r (or-left (badPsn r) _ (h .range));
@@ -165,9 +166,9 @@ module _ (card : Card) (passes : Tables → Bool) (test : Decides card passes)
         (λ q. rw q (λ d. let z : _≡_ {A = ℕ} 0 1 = cc in absurd (omega arith)))))
       (λ e. rw e (λ d. let z : _≡_ {A = ℕ} 0 1 = cc in absurd (omega arith)))
 
-  module _ (done : call card passes (on p (acknowledging r y b)) t .said .reply ≡ Answered Done messages place) where
+  module _ (done : call card (on p (acknowledging r y b)) t .said .reply ≡ Answered Done messages place) where
     -- no packet that the pair then holds is at or before R, as seen from the U that the call found
-    pub none-at-or-before : Each (Behind (U (side t p)) r) (side (call card passes (on p (acknowledging r y b)) t .next) p .packets)
+    pub none-at-or-before : Each (Behind (U (side t p)) r) (side (call card (on p (acknowledging r y b)) t .next) p .packets)
     none-at-or-before =
         let w = was-taken done in
         rw (w .next .1, freed-side card t (w .audit .whole) p (w .low) (w .next .0) (release (plus r 1) (side t p) .released))
@@ -175,7 +176,7 @@ module _ (card : Card) (passes : Tables → Bool) (test : Decides card passes)
 
     -- and the slots of those that were are free
     pub slots-free : (i : ℕ) → 1 ≤ times i (queue t p) → distance (U (side t p)) (slotAt (t .slots) i .packet .psn) ≤ distance (U (side t p)) r
-        → times i (free (call card passes (on p (acknowledging r y b)) t .next)) ≡ 1
+        → times i (free (call card (on p (acknowledging r y b)) t .next)) ≡ 1
     slots-free i m l =
         let w = was-taken done in
         let k = release (plus r 1) (side t p) .released in
@@ -238,20 +239,20 @@ keeps-read card t a p low ready r y i m read n =
       (λ e. omega (arith, ltb-false)) in
     omega (arith, times-parts i k (queue t p), pair-and-free card t (a .whole) p i)
 
-module _ (card : Card) (passes : Tables → Bool) (test : Decides card passes)
+module _ (card : Card)
     (t : Tables) (p r y : ℕ) (b : List ℕ) (answer : Answer) (messages place : ℕ) where
   -- a slot that holds a read stays in its pair's queue
-  pub read-stays : call card passes (on p (acknowledging r y b)) t .said .reply ≡ Answered answer messages place → answer ≢ Ended
+  pub read-stays : call card (on p (acknowledging r y b)) t .said .reply ≡ Answered answer messages place → answer ≢ Ended
       → (i : ℕ) → 1 ≤ times i (queue t p) → isRead (slotAt (t .slots) i .packet) ≡ true
-      → times i (queue (call card passes (on p (acknowledging r y b)) t .next) p) ≡ 1
+      → times i (queue (call card (on p (acknowledging r y b)) t .next) p) ≡ 1
   unfolding call
   read-stays =
-      by-test (passes t)
+      by-test (passes card t)
       (λ e. rw e (by-test (eqb (firstGiven (refusals card (acknowledging r y b) p (sides t))) 0)
         (λ q. rw q (λ d n i m read.
           let h = accepted card (acknowledging r y b) p (sides t) q in
           let low = h .pair in
-          let a = test .sound t e in
+          let a = sound card t e in
           let ready = rw (side-at t p) at (is-ready {x = sideAt (sides t) p .standing .state} (h .state)) in
           let o = acknowledge r y (sideAt (sides t) p) in
           let k = o .released + o .flushed in

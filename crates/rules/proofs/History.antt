@@ -21,7 +21,8 @@ use Rattle.rules.specs.Ranges.{badPost, overCeiling}
 use Rattle.rules.specs.Slots.{Tables, queue, side, sides, fresh}
 use Rattle.rules.specs.Pool.{claimOf, claims}
 use Rattle.rules.specs.Audit.{Audit}
-use Rattle.rules.proofs.Decides.{Decides}
+use Rattle.rules.specs.Passes.Tables.{passes}
+use Rattle.rules.proofs.Passes.Decided.{sound, complete}
 use Rattle.rules.specs.Requests.{Request, posting, Call, starting, on}
 use Rattle.rules.specs.Refusals.{sideAt, wrongState, anyRead, noRoom, refusals}
 use Rattle.rules.specs.Calls.{Move, leave, join as joins, effect, packetsAfter, sideAfter, Step, allClosed, account, call}
@@ -52,16 +53,15 @@ pub record Agree (card : Card) (c : Step Tables) (a : Step (List Side)) : Type 0
   pub same : sides (c .next) ≡ a .next
   pub audit : Audit card (c .next)
 
-module _ (card : Card) (passes : Tables → Bool)
-    (test : Decides card passes) where
+module _ (card : Card) where
   pub agrees : (c : Call) (t : Tables) → Audit card t
-      → Agree card (call card passes c t) (account card c (sides t))
+      → Agree card (call card c t) (account card c (sides t))
   unfolding call account
   agrees starting t a =
       rw (eq-eqb (length (t .pairs)) (card .pairs) (a .whole .pair-records), eq-eqb (length (t .slots)) (card .slots) (a .whole .slot-records))
       (record { said = refl; same = fresh-sides card; audit = fresh-audit card })
   agrees (on p q) t a =
-      rw (test .complete t a)
+      rw (complete card t a)
       (by-test (eqb (firstGiven (refusals card q p (sides t))) 0)
         (λ e.
           let h = accepted card q p (sides t) e in
@@ -77,11 +77,11 @@ module _ (card : Card) (passes : Tables → Bool)
     pub audit : Audit card (c .last)
 
   pub agreed : (cs : List Call) (t : Tables) (a : List Side) → sides t ≡ a → Audit card t
-      → Agreed (run (call card passes) cs t) (run (account card) cs a)
+      → Agreed (run (call card) cs t) (run (account card) cs a)
   agreed [] t a e h = record { said = refl; same = e; audit = h }
   agreed (c ∷ cs) t a e h =
       let one = agrees c t h in
-      let rest = agreed cs (call card passes c t .next) (account card c a .next) (rw e at (one .same)) (one .audit) in
+      let rest = agreed cs (call card c t .next) (account card c a .next) (rw e at (one .same)) (one .audit) in
       record { said = λ i. (rw e at (one .said)) i ∷ rest .said i; same = rest .same; audit = rest .audit }
 
   -- ---- the room clause
@@ -117,10 +117,10 @@ module _ (card : Card) (passes : Tables → Bool)
         rw (within (leb-false (card .pairs) p hp) (rw (side-at t p) at (is-ready {x = s .standing .state} ready)) l) (omega arith)))))))
 
     pub room : length (queue t p) + slotsFor (side t p .standing .settings) m ≤ side t p .standing .settings .share
-        → (n : ℕ) → call card passes (on p (posting m)) t .said .reply ≡ Refused n → n ≤ 7
+        → (n : ℕ) → call card (on p (posting m)) t .said .reply ≡ Refused n → n ≤ 7
     unfolding call
     room l n =
-        rw (test .complete t a)
+        rw (complete card t a)
         (by-test (eqb (firstGiven (refusals card (posting m) p (sides t))) 0)
           (λ e. rw e (λ q. let z : _≡_ {A = ℕ} 0 1 = cc in absurd (omega arith)))
           (λ e. rw e (λ q. omega (arith, number l, refused-inj q))))
@@ -177,21 +177,21 @@ module _ (card : Card) (passes : Tables → Bool)
 
   -- ---- demand 3
 
-  pub faithful : (cs : List Call) → Faithful card passes cs
+  pub faithful : (cs : List Call) → Faithful card cs
   faithful cs =
       let r = agreed cs (fresh card) (allClosed card) (fresh-sides card) (fresh-audit card) in
       record {
         audited = r .audit;
         said = r .said;
-        sides = λ p h. sym (side-at (called card passes cs .last) p) ∙ ap (λ (a : List Side). sideAt a p) (r .same);
+        sides = λ p h. sym (side-at (called card cs .last) p) ∙ ap (λ (a : List Side). sideAt a p) (r .same);
         held = λ p h.
           balanced p cs (allClosed card) blank (blank-balanced p) .held
           ∙ ap (λ (s : Side). ledgerFrom card p cs (allClosed card) blank .released ++ s .packets)
-            (sym (sym (side-at (called card passes cs .last) p) ∙ ap (λ (a : List Side). sideAt a p) (r .same)));
+            (sym (sym (side-at (called card cs .last) p) ∙ ap (λ (a : List Side). sideAt a p) (r .same)));
         told = λ p. balanced p cs (allClosed card) blank (blank-balanced p) .told;
         once = r .audit .whole .once;
-        ceiling = λ p h. ceiling (called card passes cs .last) (r .audit) p h;
-        room = room (called card passes cs .last) (r .audit) }
+        ceiling = λ p h. ceiling (called card cs .last) (r .audit) p h;
+        room = room (called card cs .last) (r .audit) }
     where
       ceiling : (t : Tables) → Audit card t → (p : ℕ) → p < card .pairs → length (queue t p) ≤ side t p .standing .settings .ceiling
       ceiling t a p h =

@@ -1,5 +1,4 @@
 pub mod InOrder
-pub mod Decides
 pub mod Ranges
 
 pub mod Numbers

@@ -1,5 +1,5 @@
 -- What a call does: to the account, where no slot, link or free queue is; and to the tables, by way of the slots. Both by the same refusals and rules.
-use mathlib.Core.Bool.{Bool, not, _&&_}
+use mathlib.Core.Bool.{not, _&&_}
 use mathlib.Core.List.{List, [], _∷_, _++_}
 use Prim.Native.Nat.{ℕ}
 use lib.Dec.{eqb}
@@ -22,6 +22,7 @@ use Rattle.rules.specs.Response.{placeOf, response}
 use Rattle.rules.specs.Timer.{timer}
 use Rattle.rules.specs.Emission.{going, outgoing, emitted, emissions}
 use Rattle.rules.specs.Slots.{Tables, sides, freed, stored, fresh}
+use Rattle.rules.specs.Passes.Tables.{passes}
 use Rattle.rules.specs.Requests.{Request, opening, posting, emitting, acknowledging, responding, ticking, closing, Call, starting, on, lent}
 use Rattle.rules.specs.Refusals.{sideAt, refusals}
 
@@ -124,13 +125,12 @@ tablesAfter none p st (leave k) t = freed none p st k t
 tablesAfter none p st (join qs) t = stored none p st qs t
 
 -- "Every call on the tables audits first; a fresh start tests only the two lengths (15)." "Order: 15, then 1 to 9"
-module _ (card : Card) (passes : Tables → Bool) where
-  unfoldable pub call : Call → Tables → Step Tables
-  call starting t =
-      if eqb (length (t .pairs)) (card .pairs) && eqb (length (t .slots)) (card .slots)
-      then started (fresh card)
-      else refuse 15 [] t
-  call (on p q) t =
-      let n = firstGiven (not (passes t) gives 15 ∷ refusals card q p (sides t)) in
-      let e = effect q (sideAt (sides t) p) in
-      if eqb n 0 then accept e (tablesAfter (card .none) p (e .standing) (e .move) t) else refuse n (lent q) t
+unfoldable pub call : Card → Call → Tables → Step Tables
+call card starting t =
+    if eqb (length (t .pairs)) (card .pairs) && eqb (length (t .slots)) (card .slots)
+    then started (fresh card)
+    else refuse 15 [] t
+call card (on p q) t =
+    let n = firstGiven (not (passes card t) gives 15 ∷ refusals card q p (sides t)) in
+    let e = effect q (sideAt (sides t) p) in
+    if eqb n 0 then accept e (tablesAfter (card .none) p (e .standing) (e .move) t) else refuse n (lent q) t

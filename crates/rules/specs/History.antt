@@ -1,6 +1,6 @@
 -- Demand 3: after any sequence of calls from a fresh start the tables are what the account says.
 use mathlib.Core.Path.{_≡_}
-use mathlib.Core.Bool.{Bool, _&&_}
+use mathlib.Core.Bool.{_&&_}
 use mathlib.Core.List.{List, [], _∷_, _++_}
 use Prim.Native.Nat.{ℕ, _+_, _*_, _≤_, _<_}
 use lib.Dec.{eqb}
@@ -95,12 +95,12 @@ lasts (p ∷ ps) = if isLast p then p .ticket ∷ lasts ps else lasts ps
 
 -- ---- the account over a history, the tables over it, and what demand 3 says of the two
 
-module _ (card : Card) (passes : Tables → Bool) where
+module _ (card : Card) where
   abbrev pub accounted : List Call → Run (List Side)
   accounted cs = run (account card) cs (allClosed card)
 
   abbrev pub called : List Call → Run Tables
-  called cs = run (call card passes) cs (fresh card)
+  called cs = run (call card) cs (fresh card)
 
   pub record Faithful (cs : List Call) : Type 0 where
     pub audited : Audit card (called cs .last)
@@ -119,4 +119,4 @@ module _ (card : Card) (passes : Tables → Bool) where
     -- "a post within its share is never refused for room": if refused at all, then by one of 1 to 7
     pub room : (p : ℕ) (m : Post)
         → length (queue (called cs .last) p) + slotsFor (side (called cs .last) p .standing .settings) m ≤ side (called cs .last) p .standing .settings .share
-        → (n : ℕ) → call card passes (on p (posting m)) (called cs .last) .said .reply ≡ Refused n → n ≤ 7
+        → (n : ℕ) → call card (on p (posting m)) (called cs .last) .said .reply ≡ Refused n → n ≤ 7
