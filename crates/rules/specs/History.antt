@@ -1,22 +1,19 @@
--- Demand 3: after any sequence of calls from a fresh start the tables are what the account says.
-use mathlib.Core.Path.{_≡_}
+-- "Demand 3's "accepted" and "released" (flushed included) are demand 2's rules run over the history since the last fresh start."
 use mathlib.Core.Bool.{_&&_}
 use mathlib.Core.List.{List, [], _∷_, _++_}
-use Prim.Native.Nat.{ℕ, _+_, _*_, _≤_, _<_}
+use Prim.Native.Nat.{ℕ, _*_}
 use lib.Dec.{eqb}
-use lib.ListN.{length, take}
+use lib.ListN.{take}
 use Rattle.refusal.specs.Choice.{if_then_else_}
 use Rattle.refusal.specs.Refusals.{firstGiven}
 use Rattle.rules.specs.declared.Packet.{Packet}
-use Rattle.rules.specs.declared.Post.{Post}
 use Rattle.rules.specs.declared.Reply.{Reply}
 use Rattle.rules.specs.declared.Reply.the-variants.{Refused, Answered, First, Count}
 use Rattle.rules.specs.Card.{Card}
 use Rattle.rules.specs.Account.{Side}
-use Rattle.rules.specs.Message.{slotsFor, isLast}
-use Rattle.rules.specs.Slots.{Tables, queue, queues, free, times, join, side, fresh}
-use Rattle.rules.specs.Audit.{Audit}
-use Rattle.rules.specs.Requests.{Call, starting, on, posting}
+use Rattle.rules.specs.Message.{isLast}
+use Rattle.rules.specs.Slots.{Tables, fresh}
+use Rattle.rules.specs.Requests.{Call, starting, on}
 use Rattle.rules.specs.Refusals.{sideAt, refusals}
 use Rattle.rules.specs.Calls.{Move, leave, join as joins, Effect, effect, Said, Step, allClosed, account, call}
 
@@ -33,8 +30,7 @@ run f (c ∷ cs) a =
     let r = run f cs (s .next) in
     record { said = s .said ∷ r .said; last = r .last }
 
--- ---- one pair's ledger: "demand 2's rules run over the history since the last fresh start". The packets accepted, those released (flushed included), and
--- the tickets that its host was told, each in order
+-- ---- one pair's ledger: the packets accepted, those released (flushed included), and the tickets that its host was told, each in order
 
 pub record Ledger : Type 0 where
   pub accepted : List Packet
@@ -93,30 +89,10 @@ abbrev pub lasts : List Packet → List ℕ
 lasts [] = []
 lasts (p ∷ ps) = if isLast p then p .ticket ∷ lasts ps else lasts ps
 
--- ---- the account over a history, the tables over it, and what demand 3 says of the two
+-- ---- the account over a history, and the tables over it
 
-module _ (card : Card) where
-  abbrev pub accounted : List Call → Run (List Side)
-  accounted cs = run (account card) cs (allClosed card)
+abbrev pub accounted : Card → List Call → Run (List Side)
+accounted card cs = run (account card) cs (allClosed card)
 
-  abbrev pub called : List Call → Run Tables
-  called cs = run (call card) cs (fresh card)
-
-  pub record Faithful (cs : List Call) : Type 0 where
-    pub audited : Audit card (called cs .last)
-    -- every answer and every lent buffer is the account's
-    pub said : called cs .said ≡ accounted cs .said
-    -- each pair's record and queue say what the account does: settings, PSNs, counts and times, and "exactly the packets .., each once, in order"
-    pub sides : (p : ℕ) → p < card .pairs → side (called cs .last) p ≡ sideAt (accounted cs .last) p
-    -- "that the history says were accepted and not yet released"
-    pub held : (p : ℕ) → p < card .pairs → ledger card p cs .accepted ≡ ledger card p cs .released ++ side (called cs .last) p .packets
-    -- each message's ticket was told once, when its last packet was released
-    pub told : (p : ℕ) → ledger card p cs .tickets ≡ lasts (ledger card p cs .released)
-    -- "every other slot is free": each slot is in one pair's queue or in the free queue, once
-    pub once : (i : ℕ) → i < card .slots → times i (free (called cs .last) ++ join (queues (called cs .last))) ≡ 1
-    -- "no pair passes its ceiling"
-    pub ceiling : (p : ℕ) → p < card .pairs → length (queue (called cs .last) p) ≤ side (called cs .last) p .standing .settings .ceiling
-    -- "a post within its share is never refused for room": if refused at all, then by one of 1 to 7
-    pub room : (p : ℕ) (m : Post)
-        → length (queue (called cs .last) p) + slotsFor (side (called cs .last) p .standing .settings) m ≤ side (called cs .last) p .standing .settings .share
-        → (n : ℕ) → call card (on p (posting m)) (called cs .last) .said .reply ≡ Refused n → n ≤ 7
+abbrev pub called : Card → List Call → Run Tables
+called card cs = run (call card) cs (fresh card)

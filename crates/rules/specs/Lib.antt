@@ -19,4 +19,6 @@ pub mod Requests
 pub mod Refusals
 pub mod Calls
 pub mod History
+pub mod Demands
+pub mod Errors
 pub mod Numbers

@@ -22,13 +22,13 @@ use Rattle.rules.specs.Pool.{claimed, claims}
 use Rattle.rules.specs.Audit.{Audit}
 use Rattle.rules.specs.Passes.Links.{linksPass}
 use Rattle.rules.specs.Passes.Tables.{Entry, claimBy, entryOf, tallyFrom, tallied, leftover, freeEntry, pairsTally, wholeTally, passes}
-use Rattle.rules.proofs.InOrder.{ordered, audited-order}
-use Rattle.rules.proofs.Links.{times-append}
-use Rattle.rules.proofs.Arranged.{length-follow, all-slots}
-use Rattle.rules.proofs.Disjoint.{once-of}
-use Rattle.rules.proofs.Good.{Good}
-use Rattle.rules.proofs.Tables.{idle-side}
-use Rattle.rules.proofs.Fits.{claimOfPair, claims-of, held-is}
+use Rattle.rules.proofs.Sides.InOrder.{ordered, audited-order}
+use Rattle.rules.proofs.Slots.Links.{times-append}
+use Rattle.rules.proofs.Slots.Queues.{length-follow, all-slots}
+use Rattle.rules.proofs.Slots.Disjoint.{once-of}
+use Rattle.rules.proofs.Sides.Good.{Good}
+use Rattle.rules.proofs.Calls.Moves.{idle-side}
+use Rattle.rules.proofs.Sides.Fits.{claimOfPair, claims-of, held-is}
 use Rattle.rules.proofs.Passes.Tests.{both, joined}
 use Rattle.rules.proofs.Passes.Links.{spells-passes}
 use Rattle.rules.proofs.Passes.Pair.{Right, pair-passes}

@@ -12,7 +12,7 @@ use Rattle.rules.specs.declared.Slot.{Slot}
 use Rattle.rules.specs.declared.carried.Trail.{Trail}
 use Rattle.rules.specs.Slots.{slotAt, follow, spelled, Below, lastOf, Linked, Spells}
 use Rattle.rules.specs.Passes.Links.{trailFrom, trailStep, trailEnds, trailed, linksPass}
-use Rattle.rules.proofs.Arranged.{length-follow}
+use Rattle.rules.proofs.Slots.Queues.{length-follow}
 use Rattle.rules.proofs.Passes.Tests.{both, joined}
 
 -- what the walk over k slots must have found

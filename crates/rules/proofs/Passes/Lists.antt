@@ -11,9 +11,9 @@ use Rattle.refusal.proofs.Cases.{by-test}
 use Rattle.rules.specs.declared.Slot.{Slot}
 use Rattle.rules.specs.Slots.{spelled, times, join, Below, lastOf, Linked, Spells}
 use Rattle.rules.specs.Passes.Tables.{Entry}
-use Rattle.rules.proofs.Links.{times-append, times-last, times-other, below-append}
-use Rattle.rules.proofs.Arranged.{length-follow}
-use Rattle.rules.proofs.Disjoint.{All, NoLast, Lasts}
+use Rattle.rules.proofs.Slots.Links.{times-append, times-last, times-other, below-append}
+use Rattle.rules.proofs.Slots.Queues.{length-follow}
+use Rattle.rules.proofs.Slots.Disjoint.{All, NoLast, Lasts}
 use Rattle.rules.proofs.Passes.Tally.{Each, NotLast, Differ, total}
 
 module _ (none : ℕ) (s : List Slot) where

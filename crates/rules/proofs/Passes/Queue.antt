@@ -14,7 +14,7 @@ use Rattle.rules.specs.declared.Slot.{Slot}
 use Rattle.rules.specs.declared.carried.Stage.the-variants.{Start}
 use Rattle.rules.specs.declared.carried.Walk.{Walk}
 use Rattle.rules.specs.Slots.{slotAt, follow, spelled, Spells}
-use Rattle.rules.proofs.InOrder.{InOrder}
+use Rattle.rules.proofs.Sides.InOrder.{InOrder}
 use Rattle.rules.specs.Messages.{Remaining}
 use Rattle.rules.specs.Passes.Course.{courseFrom, courseEnds}
 use Rattle.rules.specs.Passes.Links.{trailEnds, trailed, linksPass}

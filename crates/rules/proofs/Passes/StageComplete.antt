@@ -20,9 +20,9 @@ use Rattle.rules.specs.Message.{pmtu, packetsFor, isRead, from, opcodeAt
 use Rattle.rules.specs.Messages.{Allowed, Messages, no-more, message, Remaining, none-left, rear}
 use Rattle.rules.specs.Passes.Stage.{alone, single, heading, opened, opens, newMessage, inner, isRear, behind, stageStep, stageEnds}
 use Rattle.refusal.proofs.Cases.{by-test, if-case}
-use Rattle.rules.proofs.Order.{packets-pos}
+use Rattle.rules.proofs.Sides.Order.{packets-pos}
 use Rattle.rules.proofs.Ranges.{permitted, allow}
-use Rattle.rules.proofs.Good.{length-packets}
+use Rattle.rules.proofs.Sides.Good.{length-packets}
 use Rattle.rules.proofs.Passes.Tests.{both, joined, same-true, same-self, allowed-is}
 use Rattle.rules.proofs.Passes.StageSound.{run, opcode-first, opcode-middle, opcode-last, split-is}
 use Rattle.rules.proofs.Passes.StageInside.{slots-is, late, late-low, Stands, inner-complete}

@@ -24,7 +24,7 @@ use Rattle.rules.specs.Passes.Stage.{postOf, more, middle, ended, closes
 use Rattle.rules.specs.Passes.Tests.{_and_}
 use Rattle.refusal.proofs.Cases.{by-test, if-case}
 use Rattle.rules.proofs.Ranges.{permitted, allow}
-use Rattle.rules.proofs.Good.{length-packets}
+use Rattle.rules.proofs.Sides.Good.{length-packets}
 use Rattle.rules.proofs.Passes.Tests.{both, joined, same-true, same-self, allowed-is}
 use Rattle.rules.proofs.Passes.StageSound.{run, opcode-middle, opcode-last, bare-middle, reth-last, made-bare}
 

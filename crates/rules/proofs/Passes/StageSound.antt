@@ -21,7 +21,7 @@ use Rattle.rules.specs.Ranges.{badPost}
 use Rattle.rules.specs.Messages.{Allowed, Messages, no-more, message, Remaining, none-left, rear}
 use Rattle.rules.specs.Passes.Stage.{same, alone, single, heading, postOf, opened, opens, newMessage, more, middle, ended, closes, goesOn, inner, isRear, behind, stageStep, stageEnds}
 use Rattle.refusal.proofs.Cases.{by-test}
-use Rattle.rules.proofs.Good.{length-packets, slots-pos}
+use Rattle.rules.proofs.Sides.Good.{length-packets, slots-pos}
 use Rattle.rules.proofs.Passes.Tests.{both, joined, same-true, allowed-of}
 
 -- the walk over a list of records

@@ -14,7 +14,7 @@ use Rattle.rules.specs.Ranges.{badPost, overCeiling}
 use Rattle.rules.specs.Messages.{Allowed}
 use Rattle.rules.specs.Passes.Stage.{same, allowedTo}
 use Rattle.rules.specs.Passes.Tests.{_and_, allOf}
-use Rattle.rules.proofs.Good.{length-packets}
+use Rattle.rules.proofs.Sides.Good.{length-packets}
 
 pub both : {a b : Bool} → a and b ≡ true → (a ≡ true) × (b ≡ true)
 unfolding _and_

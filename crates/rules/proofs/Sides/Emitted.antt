@@ -15,9 +15,9 @@ use Rattle.rules.specs.Message.{span}
 use Rattle.rules.specs.Release.{further}
 use Rattle.rules.specs.Emission.{ends, waiting, going, endsAt, emitted}
 use Rattle.rules.specs.Order.{_or_, left, right, Past, Start}
-use Rattle.rules.proofs.InOrder.{RunsLow, StartsLow, InOrder}
+use Rattle.rules.proofs.Sides.InOrder.{RunsLow, StartsLow, InOrder}
 use Rattle.psn.proofs.Laws.{distance-is, distance-step, distance-inj}
-use Rattle.rules.proofs.Order.{runs-end}
+use Rattle.rules.proofs.Sides.Order.{runs-end}
 
 module _ (s : Settings) (u : ℕ) (u-low : u < psns) (n : ℕ) (n-low : n < psns) (near : distance u n ≤ half) where
   -- y is at the place where a run starts

@@ -27,8 +27,8 @@ use Rattle.rules.specs.Requests.{Request, opening, posting, emitting, ac
 use Rattle.rules.specs.Refusals.{sideAt}
 use Rattle.rules.specs.Calls.{effect, sideAfter}
 use Rattle.rules.proofs.Pool.{claimed-set}
-use Rattle.rules.proofs.Accepted.{Accepted, is-ready}
-use Rattle.rules.proofs.Good.{Good, Follows, claim-open, length-packets, good-closed, good-opened, good-acknowledge, good-timer, good-response, good-emitted, good-posted}
+use Rattle.rules.proofs.Calls.Accepted.{Accepted, is-ready}
+use Rattle.rules.proofs.Sides.Good.{Good, Follows, claim-open, length-packets, good-closed, good-opened, good-acknowledge, good-timer, good-response, good-emitted, good-posted}
 
 -- ---- sides in a list
 

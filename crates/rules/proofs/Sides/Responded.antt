@@ -16,10 +16,10 @@ use Rattle.rules.specs.Message.{span, isRead}
 use Rattle.rules.specs.Release.{advanced, passedBy}
 use Rattle.rules.specs.Response.{covers}
 use Rattle.rules.specs.Order.{_or_, left, right, Past, Start}
-use Rattle.rules.proofs.InOrder.{RunsLow, StartsLow, InOrder}
+use Rattle.rules.proofs.Sides.InOrder.{RunsLow, StartsLow, InOrder}
 use Rattle.psn.proofs.Laws.{distance-same, distance-plus, distance-round, distance-step, distance-from}
-use Rattle.rules.proofs.Scan.{no-read}
-use Rattle.rules.proofs.Order.{and-false, runs-end, runs-from, starts-of, past-of, span-pos, Kept, ordered-after}
+use Rattle.rules.proofs.Sides.Scan.{no-read}
+use Rattle.rules.proofs.Sides.Order.{and-false, runs-end, runs-from, starts-of, past-of, span-pos, Kept, ordered-after}
 
 -- a record of a run starts no nearer than the run
 pub start-past : (size : Packet → ℕ) (u o n a : ℕ) (ps : List Packet) → RunsLow size u o ps n → Start a ps → o ≤ distance u a

@@ -20,11 +20,11 @@ use Rattle.rules.specs.Release.{advanced, further, release, passedBy, un
 use Rattle.rules.specs.Acknowledge.{inside}
 use Rattle.rules.specs.Response.{covers, readAt, taken, response}
 use Rattle.rules.specs.Order.{_or_, left, right}
-use Rattle.rules.proofs.InOrder.{RunsLow, StartsLow, InOrder}
+use Rattle.rules.proofs.Sides.InOrder.{RunsLow, StartsLow, InOrder}
 use Rattle.psn.proofs.Laws.{distance-same, distance-zero, distance-from, distance-step, distance-plus}
-use Rattle.rules.proofs.Order.{whole-or-part, Part, none-before, ordered-release}
-use Rattle.rules.proofs.Responded.{covers-first, ordered-last, ordered-inside}
-use Rattle.rules.proofs.Acknowledge.{Fine, release-keeps, again}
+use Rattle.rules.proofs.Sides.Order.{whole-or-part, Part, none-before, ordered-release}
+use Rattle.rules.proofs.Sides.Responded.{covers-first, ordered-last, ordered-inside}
+use Rattle.rules.proofs.Sides.Acknowledge.{Fine, release-keeps, again}
 
 -- a release that is not stopped
 pub record Clear (b : ℕ) (s : Side) : Type 0 where

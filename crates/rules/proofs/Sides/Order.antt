@@ -19,7 +19,7 @@ use Rattle.rules.specs.Account.{Side, U, X, H, N, ahead, noPacket}
 use Rattle.rules.specs.Message.{isRead, span, pmtu, packetsFor}
 use Rattle.rules.specs.Release.{unanswered, passedBy, release, advanced}
 use Rattle.rules.specs.Order.{_or_, left, right, Past, Start}
-use Rattle.rules.proofs.InOrder.{RunsLow, StartsLow, InOrder}
+use Rattle.rules.proofs.Sides.InOrder.{RunsLow, StartsLow, InOrder}
 use Rattle.psn.proofs.Laws.{distance-is, distance-same, distance-from, distance-zero}
 
 module _ (size : Packet → ℕ) (u : ℕ) (u-low : u < psns) where

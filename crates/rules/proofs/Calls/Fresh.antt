@@ -17,11 +17,11 @@ use Rattle.rules.specs.Pool.{claimed, claims}
 use Rattle.rules.specs.Audit.{Whole, Audit}
 use Rattle.rules.specs.Refusals.{sideAt}
 use Rattle.rules.specs.Calls.{allClosed}
-use Rattle.rules.proofs.Links.{Distinct, times-same, times-other, length-chain, spelled-is, spells-chain}
-use Rattle.rules.proofs.Disjoint.{each-once}
-use Rattle.rules.proofs.Good.{length-from, good-closed}
-use Rattle.rules.proofs.Well.{Well}
-use Rattle.rules.proofs.Tables.{audit-of}
+use Rattle.rules.proofs.Slots.Links.{Distinct, times-same, times-other, length-chain, spelled-is, spells-chain}
+use Rattle.rules.proofs.Slots.Disjoint.{each-once}
+use Rattle.rules.proofs.Sides.Good.{length-from, good-closed}
+use Rattle.rules.proofs.Calls.Well.{Well}
+use Rattle.rules.proofs.Calls.Moves.{audit-of}
 
 times-from-low : (i a n : ℕ) → i < a → times i (from a n) ≡ 0
 times-from-low i a zero h = refl

@@ -27,11 +27,11 @@ use Rattle.rules.specs.Requests.{Request, opening, posting, emitting, ac
 use Rattle.rules.specs.Refusals.{sideAt, refusals}
 use Rattle.rules.specs.Calls.{written, effect, call}
 use Rattle.refusal.specs.Refusals.{firstGiven}
-use Rattle.rules.proofs.Completions.{completed-most}
+use Rattle.rules.proofs.Calls.Completions.{completed-most}
 use Rattle.rules.proofs.Ranges.{in-range}
-use Rattle.rules.proofs.Accepted.{Accepted, accepted, is-ready}
-use Rattle.rules.proofs.Well.{Well}
-use Rattle.rules.proofs.Tables.{well-of}
+use Rattle.rules.proofs.Calls.Accepted.{Accepted, accepted, is-ready}
+use Rattle.rules.proofs.Calls.Well.{Well}
+use Rattle.rules.proofs.Calls.Moves.{well-of}
 
 -- ---- emissions
 

@@ -16,9 +16,9 @@ use Rattle.rules.specs.Account.{Side, U, X, H, N}
 use Rattle.rules.specs.Message.{span, pmtu, packetsFor, from, opcodeAt, packetAt, packetsOf}
 use Rattle.rules.specs.Posting.{posted}
 use Rattle.rules.specs.Order.{_or_, left, right, Past, Start}
-use Rattle.rules.proofs.InOrder.{RunsLow, StartsLow, InOrder}
+use Rattle.rules.proofs.Sides.InOrder.{RunsLow, StartsLow, InOrder}
 use Rattle.psn.proofs.Laws.{distance-step}
-use Rattle.rules.proofs.Order.{starts-of, packets-pos, past-of}
+use Rattle.rules.proofs.Sides.Order.{starts-of, packets-pos, past-of}
 
 -- ---- joined runs
 

@@ -19,9 +19,9 @@ use Rattle.rules.specs.Outcome.{Outcome, after}
 use Rattle.rules.specs.Release.{passedBy, release, Release}
 use Rattle.rules.specs.Acknowledge.{resent, inside, ack, final, rnr, acknowledge}
 use Rattle.rules.specs.Order.{_or_, left, right}
-use Rattle.rules.proofs.InOrder.{InOrder}
+use Rattle.rules.proofs.Sides.InOrder.{InOrder}
 use Rattle.psn.proofs.Laws.{distance-same, distance-step}
-use Rattle.rules.proofs.Order.{ordered-release}
+use Rattle.rules.proofs.Sides.Order.{ordered-release}
 
 pub ordered-resent : (t : Standing) (ps : List Packet) (left wait : ℕ) → InOrder (record { standing = t; packets = ps })
     → InOrder (record { standing = resent left wait t; packets = ps })

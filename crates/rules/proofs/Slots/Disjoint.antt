@@ -11,7 +11,7 @@ use lib.ListN.{length, getD}
 use Rattle.refusal.proofs.Cases.{by-test}
 use Rattle.rules.specs.declared.Slot.{Slot}
 use Rattle.rules.specs.Slots.{times, join, Below, lastOf, Linked}
-use Rattle.rules.proofs.Links.{Distinct, Apart, times-same, times-other, times-append}
+use Rattle.rules.proofs.Slots.Links.{Distinct, Apart, times-same, times-other, times-append}
 
 module _ (none : ℕ) (s : List Slot) where
   -- the links leave no choice

@@ -17,14 +17,14 @@ use Rattle.rules.specs.Message.{isRead, span}
 use Rattle.rules.specs.Emission.{ends, waiting, sent}
 use Rattle.rules.specs.Slots.{Tables, side}
 use Rattle.rules.specs.Order.{_or_, left, right, Start}
-use Rattle.rules.proofs.InOrder.{RunsLow, StartsLow, InOrder, audited-order}
+use Rattle.rules.proofs.Sides.InOrder.{RunsLow, StartsLow, InOrder, audited-order}
 use Rattle.rules.specs.Audit.{Audit, Each}
 use Rattle.psn.proofs.Laws.{distance-same, distance-step, distance-inj, distance-zero}
 use Rattle.rules.proofs.Ranges.{in-range}
-use Rattle.rules.proofs.Order.{runs-end, span-pos, unanswered-is}
-use Rattle.rules.proofs.Good.{spans-small}
-use Rattle.rules.proofs.Responded.{start-past, first-behind}
-use Rattle.rules.proofs.Emitted.{first-ends}
+use Rattle.rules.proofs.Sides.Order.{runs-end, span-pos, unanswered-is}
+use Rattle.rules.proofs.Sides.Good.{spans-small}
+use Rattle.rules.proofs.Sides.Responded.{start-past, first-behind}
+use Rattle.rules.proofs.Sides.Emitted.{first-ends}
 
 -- each carries the PSN where the one before ends
 abbrev pub Upward : Standing → ℕ → List Packet → Type 0

@@ -20,10 +20,10 @@ use Rattle.rules.specs.Release.{release, Release, passedBy, advanced}
 use Rattle.rules.specs.Acknowledge.{inside, resent, ack, rnr, waits, acknowledge}
 use Rattle.rules.specs.Response.{response}
 use Rattle.rules.specs.Timer.{timer, timeoutOf}
-use Rattle.rules.proofs.InOrder.{InOrder}
+use Rattle.rules.proofs.Sides.InOrder.{InOrder}
 use Rattle.rules.specs.Audit.{Bounded, Timed, longestHold}
 use Rattle.psn.proofs.Laws.{distance-step, distance-same}
-use Rattle.rules.proofs.Response.{clear}
+use Rattle.rules.proofs.Sides.Response.{clear}
 
 pub or-false : (a b : Bool) → a || b ≡ false → (a ≡ false) × (b ≡ false)
 or-false true b e = absurd (true≢false e)

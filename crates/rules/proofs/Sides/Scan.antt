@@ -16,8 +16,8 @@ use Rattle.rules.specs.Account.{Side, U, N, ahead}
 use Rattle.rules.specs.Message.{isRead, span}
 use Rattle.rules.specs.Release.{unanswered, passedBy, release}
 use Rattle.rules.specs.Order.{_or_, left, right}
-use Rattle.rules.proofs.InOrder.{RunsLow, InOrder}
-use Rattle.rules.proofs.Order.{runs-end, unanswered-is, halted, span-pos, Part, whole-or-part, none-passed, none-before}
+use Rattle.rules.proofs.Sides.InOrder.{RunsLow, InOrder}
+use Rattle.rules.proofs.Sides.Order.{runs-end, unanswered-is, halted, span-pos, Part, whole-or-part, none-passed, none-before}
 use Rattle.psn.proofs.Laws.{distance-same}
 
 -- the test of a by-value step: this record stays

@@ -27,11 +27,11 @@ use Rattle.rules.specs.Order.{_or_, left, right}
 use Rattle.rules.specs.Messages.{Allowed, Messages, no-more, message, Remaining, none-left, rear}
 use Rattle.rules.specs.Audit.{Each}
 use Rattle.psn.proofs.Laws.{distance-same}
-use Rattle.rules.proofs.Arranged.{length-follow}
+use Rattle.rules.proofs.Slots.Queues.{length-follow}
 use Rattle.rules.proofs.Ranges.{Permitted, permitted}
-use Rattle.rules.proofs.Order.{span-pos}
-use Rattle.rules.proofs.Posted.{no-read}
-use Rattle.rules.proofs.Good.{each-append, each-drop}
+use Rattle.rules.proofs.Sides.Order.{span-pos}
+use Rattle.rules.proofs.Sides.Posted.{no-read}
+use Rattle.rules.proofs.Sides.Good.{each-append, each-drop}
 
 -- ---- the claims, off the pair records alone
 

@@ -23,12 +23,14 @@ use Rattle.rules.specs.Audit.{Whole, Audit}
 use Rattle.rules.specs.Requests.{Request, opening, posting, emitting, acknowledging, responding, ticking, closing}
 use Rattle.rules.specs.Refusals.{sideAt, refusals}
 use Rattle.rules.specs.Calls.{Move, leave, join, effect, sideAfter, packetsAfter, tablesAfter}
-use Rattle.rules.proofs.InOrder.{in-order, ordered}
-use Rattle.rules.proofs.Arranged.{all-slots, length-follow, freed-side, freed-others, freed-whole, stored-side, stored-others, stored-whole}
+use Rattle.rules.proofs.Sides.InOrder.{in-order, ordered}
+use Rattle.rules.proofs.Slots.Queues.{all-slots, length-follow}
+use Rattle.rules.proofs.Slots.Freed.{freed-side, freed-others, freed-whole}
+use Rattle.rules.proofs.Slots.Stored.{stored-side, stored-others, stored-whole}
 use Rattle.rules.proofs.Pool.{allHeld, enough}
-use Rattle.rules.proofs.Accepted.{Accepted, is-ready}
-use Rattle.rules.proofs.Good.{Good, claim-open, length-packets}
-use Rattle.rules.proofs.Well.{Well, well-accepted, side-same, claim-at, posted-state}
+use Rattle.rules.proofs.Calls.Accepted.{Accepted, is-ready}
+use Rattle.rules.proofs.Sides.Good.{Good, claim-open, length-packets}
+use Rattle.rules.proofs.Calls.Well.{Well, well-accepted, side-same, claim-at, posted-state}
 
 -- ---- a side, off the tables
 

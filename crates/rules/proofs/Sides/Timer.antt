@@ -13,8 +13,8 @@ use Rattle.rules.specs.declared.Answer.{Answer}
 use Rattle.rules.specs.Account.{Side, U, H}
 use Rattle.rules.specs.Timer.{ticked, timer}
 use Rattle.rules.specs.Order.{left, right}
-use Rattle.rules.proofs.InOrder.{InOrder}
-use Rattle.rules.proofs.Acknowledge.{Fine, ordered-resent}
+use Rattle.rules.proofs.Sides.InOrder.{InOrder}
+use Rattle.rules.proofs.Sides.Acknowledge.{Fine, ordered-resent}
 
 -- the times do not matter to the order
 pub ordered-clock : (t : Standing) (ps : List Packet) (c : Clock) → InOrder (record { standing = t; packets = ps })

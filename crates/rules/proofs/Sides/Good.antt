@@ -27,19 +27,19 @@ use Rattle.rules.specs.Timer.{timer}
 use Rattle.rules.specs.Emission.{emitted}
 use Rattle.rules.specs.Pool.{claimOf}
 use Rattle.rules.specs.Order.{_or_, left, right}
-use Rattle.rules.proofs.InOrder.{InOrder}
+use Rattle.rules.proofs.Sides.InOrder.{InOrder}
 use Rattle.rules.specs.Messages.{Allowed, Messages, no-more, message, Remaining, none-left, rear}
 use Rattle.rules.specs.Audit.{Each, Bounded, Timed}
 use Rattle.psn.proofs.Laws.{distance-same}
 use Rattle.rules.proofs.Ranges.{in-range, permitted}
-use Rattle.rules.proofs.Order.{packets-pos}
-use Rattle.rules.proofs.Posted.{no-read, ordered-posted}
-use Rattle.rules.proofs.Messages.{held-drop, held-post}
-use Rattle.rules.proofs.Acknowledge.{Fine, fine-acknowledge}
-use Rattle.rules.proofs.Response.{fine-response}
-use Rattle.rules.proofs.Timer.{fine-timer}
-use Rattle.rules.proofs.Emitted.{ordered-emitted}
-use Rattle.rules.proofs.Sound.{Lows, Timely, timely-acknowledge, timely-response, timely-timer, or-false}
+use Rattle.rules.proofs.Sides.Order.{packets-pos}
+use Rattle.rules.proofs.Sides.Posted.{no-read, ordered-posted}
+use Rattle.rules.proofs.Sides.Messages.{held-drop, held-post}
+use Rattle.rules.proofs.Sides.Acknowledge.{Fine, fine-acknowledge}
+use Rattle.rules.proofs.Sides.Response.{fine-response}
+use Rattle.rules.proofs.Sides.Timer.{fine-timer}
+use Rattle.rules.proofs.Sides.Emitted.{ordered-emitted}
+use Rattle.rules.proofs.Sides.Times.{Lows, Timely, timely-acknowledge, timely-response, timely-timer, or-false}
 
 -- ---- every packet of a list
 

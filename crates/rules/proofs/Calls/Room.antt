@@ -1,0 +1,71 @@
+-- The room clause: within its share a post is refused by none but 1 to 7.
+use mathlib.Core.Path.{_≡_}
+use mathlib.Core.Bool.{false, _&&_}
+use Prim.Native.Nat.{ℕ, _+_, _≤_, _<_}
+use native.Mathlib.Omega.{arith}
+use lib.Dec.{eqb, ltb, leb}
+use borrow.Author.Tests.{le-ltb, leb-false}
+use lib.ListN.{length, length-map}
+use Rattle.refusal.proofs.Cases.{by-test, if-case}
+use Rattle.rules.specs.declared.Post.{Post}
+use Rattle.psn.specs.Psn.{half, distance}
+use Rattle.rules.specs.declared.Reply.the-variants.{Refused}
+use Rattle.rules.specs.Card.{Card}
+use Rattle.rules.specs.Account.{noSide, U, N}
+use Rattle.rules.specs.Message.{slotsFor, psnsFor}
+use Rattle.rules.specs.Ranges.{badPost, overCeiling}
+use Rattle.rules.specs.Slots.{Tables, queue, side, sides}
+use Rattle.rules.specs.Pool.{claimOf, claims}
+use Rattle.rules.specs.Audit.{Audit}
+use Rattle.rules.proofs.Passes.Decided.{complete}
+use Rattle.rules.specs.Requests.{posting, on}
+use Rattle.rules.specs.Refusals.{sideAt, wrongState, anyRead, noRoom, refusals}
+use Rattle.rules.specs.Calls.{call}
+use Rattle.refusal.specs.Refusals.{firstGiven}
+use Rattle.rules.proofs.Ranges.{in-range}
+use Rattle.rules.proofs.Pool.{claimed-set}
+use Rattle.rules.proofs.Calls.Accepted.{is-ready}
+use Rattle.rules.proofs.Sides.Good.{claim-open}
+use Rattle.rules.proofs.Calls.Well.{claim-at}
+use Rattle.rules.proofs.Calls.Moves.{side-at, side-length, well-of}
+use Rattle.rules.proofs.Calls.Agrees.{refused-inj}
+
+module _ (card : Card) where
+  module _ (t : Tables) (a : Audit card t) (p : ℕ) (m : Post) where
+    within : p < card .pairs → side t p .standing .state ≡ 1
+        → length (queue t p) + slotsFor (side t p .standing .settings) m ≤ side t p .standing .settings .share
+        → noRoom card p m (sides t) ≡ false
+    within hp ready l =
+        let st = side t p .standing .settings in
+        let held = length (side t p .packets) + slotsFor st m in
+        let f = in-range (a .bounded p hp (omega arith) .settings) in
+        let w = well-of card t a in
+        let n = side-length t p in
+        let c =
+            claimed-set (claims (sides t)) p (record { share = st .share; held = held }) (claimOf noSide)
+            (omega (arith, w .count, length-map (sides t) claimOf)) in
+        rw (side-at t p)
+        (rw (le-ltb (st .ceiling) held (omega (arith, f .share-high)))
+        (le-ltb (card .slots) _ (omega (arith, a .shares, rw (claim-at (sides t) p, side-at t p, claim-open (side t p) (omega arith)) at c))))
+
+    number : length (queue t p) + slotsFor (side t p .standing .settings) m ≤ side t p .standing .settings .share
+        → firstGiven (refusals card (posting m) p (sides t)) ≤ 7
+    number l =
+        let s = sideAt (sides t) p in
+        let st = s .standing .settings in
+        if-case (λ (n : ℕ). n ≤ 7) (leb (card .pairs) p) (λ _. omega arith) (λ hp.
+        if-case (λ (n : ℕ). n ≤ 7) (wrongState (posting m) (s .standing .state)) (λ _. omega arith) (λ ready.
+        if-case (λ (n : ℕ). n ≤ 7) (badPost m) (λ _. omega arith) (λ _.
+        if-case (λ (n : ℕ). n ≤ 7) (overCeiling st m) (λ _. omega arith) (λ _.
+        if-case (λ (n : ℕ). n ≤ 7) (m .fenced && anyRead (s .packets)) (λ _. omega arith) (λ _.
+        if-case (λ (n : ℕ). n ≤ 7) (ltb half (distance (U s) (N s) + psnsFor st m)) (λ _. omega arith) (λ _.
+        rw (within (leb-false (card .pairs) p hp) (rw (side-at t p) at (is-ready {x = s .standing .state} ready)) l) (omega arith)))))))
+
+    pub room : length (queue t p) + slotsFor (side t p .standing .settings) m ≤ side t p .standing .settings .share
+        → (n : ℕ) → call card (on p (posting m)) t .said .reply ≡ Refused n → n ≤ 7
+    unfolding call
+    room l n =
+        rw (complete card t a)
+        (by-test (eqb (firstGiven (refusals card (posting m) p (sides t))) 0)
+          (λ e. rw e (λ q. let z : _≡_ {A = ℕ} 0 1 = cc in absurd (omega arith)))
+          (λ e. rw e (λ q. omega (arith, number l, refused-inj q))))

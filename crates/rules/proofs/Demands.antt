@@ -1,0 +1,100 @@
+-- The three demands, proved: on any card, for any arguments, buffers and tables, and over every history.
+use mathlib.Core.Path.{_≡_, refl, sym, ap, _∙_}
+use mathlib.Core.Bool.{true, false, _&&_}
+use mathlib.Core.List.{List, [], _∷_, _++_}
+use Prim.Native.Nat.{ℕ, _≤_, _<_}
+use native.Mathlib.Omega.{arith}
+use lib.Dec.{eqb, ltb}
+use borrow.Author.Tests.{ltb-true, ltb-false}
+use lib.ListN.{length}
+use Rattle.refusal.proofs.Cases.{by-test}
+use Rattle.rules.specs.declared.Reply.the-variants.{Refused}
+use Rattle.rules.specs.Card.{Card}
+use Rattle.rules.specs.Account.{Side}
+use Rattle.rules.specs.Slots.{Tables, queue, side, sides, fresh}
+use Rattle.rules.specs.Audit.{Audit}
+use Rattle.rules.specs.Passes.Tables.{passes}
+use Rattle.rules.specs.Requests.{Request, Call, starting, on}
+use Rattle.rules.specs.Refusals.{sideAt}
+use Rattle.rules.specs.Calls.{allClosed, call}
+use Rattle.rules.specs.History.{blank, ledger, accounted, called}
+use Rattle.rules.specs.Demands.{Harmless, Audits, Exact, Faithful}
+use Rattle.rules.proofs.Passes.Decided.{complete, sound}
+use Rattle.rules.proofs.Calls.Moves.{side-at, side-length, idle-side}
+use Rattle.rules.proofs.Calls.Fresh.{fresh-sides, fresh-audit}
+use Rattle.rules.proofs.Calls.Agrees.{agrees, Agreed, agreed}
+use Rattle.rules.proofs.Calls.Refused.{unchanged, unchanged-start, unaudited, numbers}
+use Rattle.rules.proofs.Calls.Buffers.{call-buffer}
+use Rattle.rules.proofs.Calls.Room.{room}
+use Rattle.rules.proofs.Calls.Ledger.{Balanced, balanced, blank-balanced}
+
+module _ (card : Card) where
+  -- ---- demand 1
+
+  start-buffer : (t : Tables) → length (call card starting t .said .buffer) ≡ 0
+  unfolding call
+  start-buffer t =
+      by-test (eqb (length (t .pairs)) (card .pairs) && eqb (length (t .slots)) (card .slots)) (λ e. rw e) (λ e. rw e)
+
+  start-kept : (t : Tables) → call card starting t .said .buffer ≡ []
+  start-kept t = none (call card starting t .said .buffer) (start-buffer t)
+    where
+      none : (l : List ℕ) → length l ≡ 0 → l ≡ []
+      none [] e = refl
+      none (a ∷ l) e = absurd (omega arith)
+
+  pub harmless : (c : Call) (t : Tables) → Harmless card c t
+  harmless starting t =
+      record { tables = λ n e. unchanged-start card t n e; kept = λ n e. start-kept t; as-long = start-buffer t }
+  harmless (on p q) t =
+      record {
+        tables = λ n e. unchanged card t n p q e .0;
+        kept = λ n e. unchanged card t n p q e .1;
+        as-long = call-buffer card t p q;
+      }
+
+  pub audits : (p : ℕ) (q : Request) (t : Tables) → Audits card p q t
+  audits p q t = (never, always)
+    where
+      never : call card (on p q) t .said .reply ≡ Refused 15 → Audit card t → ⊥
+      never e a = omega (arith, numbers card t a p q 15 e)
+
+      always : (Audit card t → ⊥) → call card (on p q) t .said .reply ≡ Refused 15
+      always h = by-test (passes card t) (λ e. absurd (h (sound card t e))) (λ e. rw (unaudited card t p q e))
+
+  -- ---- demand 2
+
+  pub exact : (c : Call) (t : Tables) → Audit card t → Exact card c t
+  exact c t a =
+      let r = agrees card c t a in
+      record { said = r .said; sides-after = r .same; audited = r .audit }
+
+  -- ---- demand 3
+
+  ceiling-kept : (t : Tables) → Audit card t → (p : ℕ) → p < card .pairs → length (queue t p) ≤ side t p .standing .settings .ceiling
+  ceiling-kept t a p h =
+      by-test (ltb 0 (side t p .standing .state))
+      (λ e. omega (arith, side-length t p, a .bounded p h (ltb-true 0 (side t p .standing .state) e) .held))
+      (λ e. omega (arith, side-length t p, idle-side card t (a .whole) p h (λ q. omega (arith, ltb-false 0 (side t p .standing .state) e))))
+
+  pub faithful : (cs : List Call) → Faithful card cs
+  faithful cs =
+      record {
+        audited = r .audit;
+        said = r .said;
+        sides = λ p h. at p;
+        held = λ p h. b p .held ∙ ap (λ (s : Side). ledger card p cs .released ++ s .packets) (sym (at p));
+        told = λ p. b p .told;
+        once = r .audit .whole .once;
+        ceiling = ceiling-kept (called card cs .last) (r .audit);
+        room = room card (called card cs .last) (r .audit);
+      }
+    where
+      r : Agreed card (called card cs) (accounted card cs)
+      r = agreed card cs (fresh card) (allClosed card) (fresh-sides card) (fresh-audit card)
+
+      at : (p : ℕ) → side (called card cs .last) p ≡ sideAt (accounted card cs .last) p
+      at p = sym (side-at (called card cs .last) p) ∙ ap (λ (a : List Side). sideAt a p) (r .same)
+
+      b : (p : ℕ) → Balanced card p (ledger card p cs) (accounted card cs .last)
+      b p = balanced card p cs (allClosed card) blank (blank-balanced card p)

@@ -1,0 +1,3 @@
+-- The errors of this trade, each shut out by a theorem.
+pub mod Acked
+pub mod Reads
