@@ -1,6 +1,7 @@
 pub mod Demands
 pub mod Errors
 pub mod Numbers
+pub mod Examples
 pub mod Cards
 pub mod Passes
 pub mod Calls
