@@ -4,6 +4,8 @@ use mathlib.Core.List.{List, [], _∷_}
 use Prim.Native.Nat.{ℕ, suc}
 use Rattle.refusal.specs.Choice.{if_then_else_}
 use Rattle.rules.specs.declared.Packet.{Packet}
+use Rattle.rules.specs.declared.Line.{Line}
+use Rattle.rules.specs.declared.Clock.{Clock}
 use Rattle.rules.specs.declared.Standing.{Standing}
 
 -- one pair's side of it; the packets in PSN order
@@ -46,6 +48,10 @@ noStanding =
 
 abbrev pub noSide : Side
 noSide = record { standing = noStanding; packets = [] }
+
+-- the same pair with this line and this clock
+abbrev pub moved : Line → Clock → Standing → Standing
+moved l c t = record { state = t .state; settings = t .settings; line = l; clock = c }
 
 -- the packet that is not there
 abbrev pub noPacket : Packet

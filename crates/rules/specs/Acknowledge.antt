@@ -9,7 +9,7 @@ use Rattle.refusal.specs.Choice.{if_then_else_}
 use Rattle.rules.specs.declared.Standing.{Standing}
 use Rattle.rules.specs.declared.Answer.{Answer}
 use Rattle.rules.specs.declared.Answer.the-variants.{Done, Resending, Held, Ended}
-use Rattle.rules.specs.Account.{Side, U, H}
+use Rattle.rules.specs.Account.{Side, U, H, moved}
 use Rattle.rules.specs.Ranges.{topBits, lowBits}
 use Rattle.rules.specs.Outcome.{Outcome, dropped, over}
 use Rattle.rules.specs.Release.{Release, release}
@@ -18,22 +18,17 @@ use Rattle.rules.specs.Release.{Release, release}
 abbrev pub inside : ℕ → Side → Bool
 inside r s = ltb (distance (U s) r) (distance (U s) (H s))
 
--- X becomes U, elapsed 0; the RNR count and the hold as given
-abbrev pub resent : ℕ → ℕ → Standing → Standing
-resent rnrs hold t =
+-- "X becomes U, elapsed 0"; the counts left and the hold as given
+abbrev pub resent : ℕ → ℕ → ℕ → Standing → Standing
+resent retries rnrs hold t =
     let l = t .line in
-    record {
-      state = t .state;
-      settings = t .settings;
-      line = record { u = l .u; x = l .u; h = l .h; n = l .n };
-      clock = record { retries = t .clock .retries; rnrs = rnrs; elapsed = 0; hold = hold };
-    }
+    moved (record { u = l .u; x = l .u; h = l .h; n = l .n }) (record { retries = retries; rnrs = rnrs; elapsed = 0; hold = hold }) t
 
 -- a release, and then "X becomes U, elapsed 0, "resending""
 abbrev pub resending : Release → Outcome
 resending g =
     let c = g .standing .clock in
-    record { answer = Resending; released = g .released; flushed = 0; standing = resent (c .rnrs) (c .hold) (g .standing) }
+    record { answer = Resending; released = g .released; flushed = 0; standing = resent (c .retries) (c .rnrs) (c .hold) (g .standing) }
 
 -- "000, ACK: release before R + 1. If stopped, X becomes U, elapsed 0, answer "resending"; else "done"."
 abbrev pub ack : ℕ → Side → Outcome
@@ -63,7 +58,7 @@ rnr r wait s =
     let left = if counts then c .rnrs - 1 else c .rnrs in
     if counts && eqb (c .rnrs) 0
     then final r s
-    else record { answer = Held; released = g .released; flushed = 0; standing = resent left wait (g .standing) }
+    else record { answer = Held; released = g .released; flushed = 0; standing = resent (c .retries) left wait (g .standing) }
 
 -- "The thirty-two RNR waits, IB, in units of 10,000 ns, codes 0 to 31"
 abbrev pub waits : List ℕ

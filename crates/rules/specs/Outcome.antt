@@ -25,9 +25,13 @@ leaving o = o .released + o .flushed
 abbrev pub after : Outcome → Side → Side
 after o s = record { standing = o .standing; packets = drop (leaving o) (s .packets) }
 
+-- no packet leaves
+abbrev pub staying : Answer → Standing → Outcome
+staying a t = record { answer = a; released = 0; flushed = 0; standing = t }
+
 -- "dropped", nothing changed
 abbrev pub dropped : Side → Outcome
-dropped s = record { answer = Dropped; released = 0; flushed = 0; standing = s .standing }
+dropped s = staying Dropped (s .standing)
 
 -- ---- "each message yields its ticket, then its status, once, when its last packet is released (0) or flushed (1)", in PSN order
 

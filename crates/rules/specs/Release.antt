@@ -9,7 +9,7 @@ use Rattle.rules.specs.declared.Packet.{Packet}
 use Rattle.rules.specs.declared.Settings.{Settings}
 use Rattle.rules.specs.declared.Clock.{Clock}
 use Rattle.rules.specs.declared.Standing.{Standing}
-use Rattle.rules.specs.Account.{Side, noPacket, ahead}
+use Rattle.rules.specs.Account.{Side, moved, noPacket, ahead}
 use Rattle.rules.specs.Message.{isRead, span}
 
 -- the further of x and y, by distance from u
@@ -28,12 +28,7 @@ clockAt a u s c = if eqb a u then c else renewed s c
 abbrev pub advanced : ℕ → Standing → Standing
 advanced a t =
     let l = t .line in
-    record {
-      state = t .state;
-      settings = t .settings;
-      line = record { u = a; x = further (l .u) (l .x) a; h = l .h; n = l .n };
-      clock = clockAt a (l .u) (t .settings) (t .clock);
-    }
+    moved (record { u = a; x = further (l .u) (l .x) a; h = l .h; n = l .n }) (clockAt a (l .u) (t .settings) (t .clock)) t
 
 -- a read's first unanswered PSN: U, where U is one of its PSNs
 abbrev pub unanswered : Standing → Packet → ℕ

@@ -9,7 +9,7 @@ use Rattle.rules.specs.declared.Packet.{Packet}
 use Rattle.rules.specs.declared.Settings.{Settings}
 use Rattle.rules.specs.declared.Standing.{Standing}
 use Rattle.rules.specs.declared.Answer.the-variants.{Done}
-use Rattle.rules.specs.Account.{Side, U, noPacket, ahead}
+use Rattle.rules.specs.Account.{Side, U, moved, noPacket, ahead}
 use Rattle.rules.specs.Message.{pmtu, lengthAt, isRead, span}
 use Rattle.rules.specs.Outcome.{Outcome, dropped}
 use Rattle.rules.specs.Release.{further, renewed, release}
@@ -52,12 +52,7 @@ placeOf r s = readAt r s .offset + placesBefore r s * pmtu (s .standing .setting
 abbrev pub taken : ℕ → ℕ → Standing → Standing
 taken found a t =
     let l = t .line in
-    record {
-      state = t .state;
-      settings = t .settings;
-      line = record { u = a; x = further found (l .x) a; h = l .h; n = l .n };
-      clock = renewed (t .settings) (t .clock);
-    }
+    moved (record { u = a; x = further found (l .x) a; h = l .h; n = l .n }) (renewed (t .settings) (t .clock)) t
 
 -- "Otherwise release before R. If stopped: X becomes U, elapsed 0, "resending". Else U becomes R + 1, .. "done" ..; at the last place the slot is released."
 unfoldable pub response : ℕ → Side → Outcome

@@ -7,8 +7,9 @@ use Rattle.rules.specs.declared.Settings.{Settings}
 use Rattle.rules.specs.declared.Standing.{Standing}
 use Rattle.rules.specs.declared.Answer.{Answer}
 use Rattle.rules.specs.declared.Answer.the-variants.{Resending, Resumed, Idle}
-use Rattle.rules.specs.Account.{Side, U, H}
-use Rattle.rules.specs.Outcome.{Outcome, ending}
+use Rattle.rules.specs.Account.{Side, U, H, moved}
+use Rattle.rules.specs.Outcome.{Outcome, staying, ending}
+use Rattle.rules.specs.Acknowledge.{resent}
 
 -- "4,096 × 2^code ns"
 abbrev pub timeoutOf : Settings → ℕ
@@ -17,35 +18,11 @@ timeoutOf s = 4096 * 2 ^ s .timeout
 -- the two times become these
 abbrev pub ticked : Answer → ℕ → ℕ → Standing → Outcome
 ticked a elapsed hold t =
-    record {
-      answer = a;
-      released = 0;
-      flushed = 0;
-      standing =
-          record {
-            state = t .state;
-            settings = t .settings;
-            line = t .line;
-            clock = record { retries = t .clock .retries; rnrs = t .clock .rnrs; elapsed = elapsed; hold = hold };
-          };
-    }
+    staying a (moved (t .line) (record { retries = t .clock .retries; rnrs = t .clock .rnrs; elapsed = elapsed; hold = hold }) t)
 
 -- "take one, X becomes U, elapsed 0, "resending""
 abbrev pub retried : Standing → Outcome
-retried t =
-    let l = t .line in
-    record {
-      answer = Resending;
-      released = 0;
-      flushed = 0;
-      standing =
-          record {
-            state = t .state;
-            settings = t .settings;
-            line = record { u = l .u; x = l .u; h = l .h; n = l .n };
-            clock = record { retries = t .clock .retries - 1; rnrs = t .clock .rnrs; elapsed = 0; hold = t .clock .hold };
-          };
-    }
+retried t = staying Resending (resent (t .clock .retries - 1) (t .clock .rnrs) (t .clock .hold) t)
 
 -- "Held: if e is at least the hold, it ends, "resumed"; else subtract, "idle". Not held: if U = H or timeout code 0, "idle". Else add e; if below
 -- 4,096 × 2^code ns, "idle"; else if the retry count is 0, end the pair, "ended"; else take one, X becomes U, elapsed 0, "resending"."

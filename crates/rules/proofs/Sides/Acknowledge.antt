@@ -23,9 +23,9 @@ use Rattle.rules.proofs.Sides.InOrder.{InOrder}
 use Rattle.psn.proofs.Laws.{distance-same, distance-step}
 use Rattle.rules.proofs.Sides.Order.{ordered-release}
 
-pub ordered-resent : (t : Standing) (ps : List Packet) (left wait : ℕ) → InOrder (record { standing = t; packets = ps })
-    → InOrder (record { standing = resent left wait t; packets = ps })
-ordered-resent t ps l w o =
+pub ordered-resent : (t : Standing) (ps : List Packet) (retries rnrs hold : ℕ) → InOrder (record { standing = t; packets = ps })
+    → InOrder (record { standing = resent retries rnrs hold t; packets = ps })
+ordered-resent t ps k l w o =
     record {
       u-low = o .u-low;
       x-low = o .u-low;
@@ -60,11 +60,11 @@ module _ (s : Side) (ready : s .standing .state ≡ 1) (o : InOrder s) where
 
     -- released before b, and X back at U
     pub again : (b : ℕ) → b < psns → distance (U s) b ≤ distance (U s) (H s) → (answer : Answer) (left wait : ℕ)
-        → Fine s (record { answer = answer; released = release b s .released; flushed = 0; standing = resent left wait (release b s .standing) })
+        → Fine s (record { answer = answer; released = release b s .released; flushed = 0; standing = resent (release b s .standing .clock .retries) left wait (release b s .standing) })
     again b l e answer n wait =
         record {
           settings = release-keeps b .1;
-          fate = left (release-keeps b .0, rw add-zero (ordered-resent _ _ _ _ (ordered-release s o b l e))) }
+          fate = left (release-keeps b .0, rw add-zero (ordered-resent _ _ _ _ _ (ordered-release s o b l e))) }
 
     fine-ack : Fine s (ack r s)
     fine-ack =

@@ -39,4 +39,4 @@ module _ (s : Side) (ready : s .standing .state ≡ 1) (o : InOrder s) where
       (λ _. record { settings = refl; fate = right (refl, omega arith) })
       (λ _. record {
         settings = refl;
-        fate = left (ready, ordered-clock _ (s .packets) _ (ordered-resent (s .standing) (s .packets) (s .standing .clock .rnrs) (s .standing .clock .hold) o)) }))))
+        fate = left (ready, ordered-resent (s .standing) (s .packets) _ (s .standing .clock .rnrs) (s .standing .clock .hold) o) }))))

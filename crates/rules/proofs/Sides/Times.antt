@@ -84,10 +84,10 @@ module _ (card : Card) (s : Side) (ready : s .standing .state ≡ 1) (f : Bounde
         lows = alive _ refl; retries = f .retries; rnrs = f .rnrs; hold = w .hold; elapsed = w .elapsed; still = w .still; on-hold = w .on-hold; untimed = w .untimed }
 
   -- X back at U, elapsed 0
-  back : (b rnrs hold : ℕ) → rnrs ≤ st .rnr → hold ≤ longestHold → Timely st (resent rnrs hold (release b s .standing))
+  back : (b rnrs hold : ℕ) → rnrs ≤ st .rnr → hold ≤ longestHold → Timely st (resent (release b s .standing .clock .retries) rnrs hold (release b s .standing))
   back b n h l m = let c = counts b in calm (alive _ (c .state)) (c .retries) l m refl
 
-  as-was : (b : ℕ) → Timely st (resent (release b s .standing .clock .rnrs) (release b s .standing .clock .hold) (release b s .standing))
+  as-was : (b : ℕ) → Timely st (resent (release b s .standing .clock .retries) (release b s .standing .clock .rnrs) (release b s .standing .clock .hold) (release b s .standing))
   as-was b = let c = counts b in back b _ _ (c .rnrs) (omega (arith, c .hold, w .hold))
 
   finished : (b : ℕ) → Timely st (over (release b s .standing))
