@@ -8,9 +8,13 @@ pub mod Response
 pub mod Timer
 pub mod Emitted
 pub mod Posted
+pub mod Split
 pub mod Messages
 pub mod Times
+pub mod Counts
 pub mod Good
 pub mod Fits
 pub mod Upward
+pub mod Waiting
+pub mod Headers
 pub mod Wrap

@@ -58,7 +58,7 @@ held-is t p =
 -- ---- places in a message
 
 -- the bytes ahead of place i are fewer than the message's, unless it has none
-ahead-of : (mtu len i : ℕ) → 1 ≤ mtu → i < packetsFor mtu len → (i * mtu < len) or ((i ≡ 0) × (len ≡ 0))
+pub ahead-of : (mtu len i : ℕ) → 1 ≤ mtu → i < packetsFor mtu len → (i * mtu < len) or ((i ≡ 0) × (len ≡ 0))
 ahead-of mtu len i pos =
     if-case (λ (n : ℕ). i < n → (i * mtu < len) or ((i ≡ 0) × (len ≡ 0))) (eqb len 0)
     (λ e h. right (omega arith, eqb-true len 0 e))

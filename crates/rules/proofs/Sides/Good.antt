@@ -32,7 +32,7 @@ use Rattle.rules.specs.Messages.{Allowed, Messages, no-more, message, Re
 use Rattle.rules.specs.Audit.{Each, Bounded, Timed}
 use Rattle.psn.proofs.Laws.{distance-same}
 use Rattle.rules.proofs.Ranges.{in-range, permitted}
-use Rattle.rules.proofs.Sides.Order.{packets-pos}
+use Rattle.rules.proofs.Sides.Order.{ahead-most, packets-pos}
 use Rattle.rules.proofs.Sides.Posted.{no-read, ordered-posted}
 use Rattle.rules.proofs.Sides.Messages.{held-drop, held-post}
 use Rattle.rules.proofs.Sides.Acknowledge.{Fine, fine-acknowledge}
@@ -58,7 +58,7 @@ module _ (P : Packet → Type 0) where
   each-at (p ∷ l) zero d h b = h .0
   each-at (p ∷ l) (suc i) d h b = each-at l i d (h .1) (le-of-suc-le-suc b)
 
-  each-map : (f : ℕ → Packet) (l : List ℕ) → ((i : ℕ) → P (f i)) → Each P (map f l)
+  pub each-map : (f : ℕ → Packet) (l : List ℕ) → ((i : ℕ) → P (f i)) → Each P (map f l)
   each-map f [] h = tt
   each-map f (i ∷ l) h = (h i, each-map f l h)
 
@@ -245,14 +245,10 @@ module _ (card : Card) where
           (one, span-small (s .standing .settings) (in-range (f .settings) .pmtu-low) (readAt r s) (each-at Short (s .packets) _ noPacket (held-short (s .standing .settings) (g .messages)) one))))
         (timely-response card s ready f (g .ordered ready) (g .timed ready) r low)
       where
-        at-most : (t : Packet → Bool) (ps : List Packet) → ahead t ps ≤ length ps
-        at-most t [] = omega arith
-        at-most t (p ∷ ps) = if-case (λ (n : ℕ). n ≤ suc (length ps)) (t p) (λ _. omega arith) (λ _. omega (arith, at-most t ps))
-
         covered : eqb (ahead (covers (s .standing .settings) r) (s .packets)) (length (s .packets)) ≡ false
             → ahead (covers (s .standing .settings) r) (s .packets) < length (s .packets)
         covered e =
-            omega (arith, eqb-false (ahead (covers (s .standing .settings) r) (s .packets)) (length (s .packets)) e, at-most (covers (s .standing .settings) r) (s .packets))
+            omega (arith, eqb-false (ahead (covers (s .standing .settings) r) (s .packets)) (length (s .packets)) e, ahead-most (covers (s .standing .settings) r) (s .packets))
 
     -- an emission moves X and H alone
     still-after : (y : ℕ) → U s ≡ further (U s) (H s) y → s .standing .clock .elapsed ≡ 0

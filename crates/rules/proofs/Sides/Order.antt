@@ -22,6 +22,11 @@ use Rattle.rules.specs.Order.{_or_, left, right, Past, Start}
 use Rattle.rules.proofs.Sides.InOrder.{RunsLow, StartsLow, InOrder}
 use Rattle.psn.proofs.Laws.{distance-is, distance-same, distance-from, distance-zero}
 
+-- at most all stand ahead
+pub ahead-most : (t : Packet → Bool) (ps : List Packet) → ahead t ps ≤ length ps
+ahead-most t [] = omega arith
+ahead-most t (p ∷ ps) = if-case (λ (n : ℕ). n ≤ suc (length ps)) (t p) (λ _. omega arith) (λ _. omega (arith, ahead-most t ps))
+
 module _ (size : Packet → ℕ) (u : ℕ) (u-low : u < psns) where
   pub runs-end : (o : ℕ) (ps : List Packet) (n : ℕ) → RunsLow size u o ps n → o ≤ distance u n
   runs-end o [] n r = omega arith
