@@ -27,6 +27,10 @@ pub or-right : (s t : Bool) → s || t ≡ false → t ≡ false
 or-right true t e = absurd (true≢false e)
 or-right false t e = e
 
+pub or-any : (t : Bool) → t || true ≡ true
+or-any true = refl
+or-any false = refl
+
 pub or-none : (t : Bool) → t || false ≡ t
 or-none true = refl
 or-none false = refl
@@ -39,3 +43,7 @@ and-left false t e = e
 pub and-right : (s t : Bool) → s && t ≡ true → t ≡ true
 and-right true t e = e
 and-right false t e = absurd (false≢true e)
+
+pub and-none : (t : Bool) → t && false ≡ false
+and-none true = refl
+and-none false = refl

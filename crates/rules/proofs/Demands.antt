@@ -1,6 +1,6 @@
 -- The three demands, proved: on any card, for any arguments, buffers and tables, and over every history.
 use mathlib.Core.Path.{_≡_, refl, sym, ap, _∙_}
-use mathlib.Core.Bool.{true, false, _&&_}
+use mathlib.Core.Bool.{_&&_}
 use mathlib.Core.List.{List, [], _∷_, _++_}
 use Prim.Native.Nat.{ℕ, _≤_, _<_}
 use native.Mathlib.Omega.{arith}
@@ -19,7 +19,7 @@ use Rattle.rules.specs.Refusals.{sideAt}
 use Rattle.rules.specs.Calls.{allClosed, call}
 use Rattle.rules.specs.History.{blank, ledger, accounted, called}
 use Rattle.rules.specs.Demands.{Harmless, Audits, Exact, Faithful}
-use Rattle.rules.proofs.Passes.Decided.{complete, sound}
+use Rattle.rules.proofs.Passes.Decided.{sound}
 use Rattle.rules.proofs.Calls.Moves.{side-at, side-length, idle-side}
 use Rattle.rules.proofs.Calls.Fresh.{fresh-sides, fresh-audit}
 use Rattle.rules.proofs.Calls.Agrees.{agrees, Agreed, agreed}

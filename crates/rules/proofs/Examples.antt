@@ -35,7 +35,7 @@ use Rattle.rules.specs.Passes.Tables.{has, put, noneOf, pairPasses, pass
 use Rattle.rules.specs.Requests.{Call, on, opening, posting, emitting, acknowledging, responding, ticking, closing}
 use Rattle.rules.specs.Refusals.{sideAt}
 use Rattle.rules.specs.Calls.{account, Said, call}
-use Rattle.rules.specs.History.{Run, run, accounted, called}
+use Rattle.rules.specs.History.{run, accounted, called}
 
 -- a pair's settings by share and ceiling
 abbrev settings : ℕ → ℕ → Settings

@@ -7,7 +7,6 @@ use lib.ListN.{length, getD}
 use Rattle.psn.specs.Psn.{distance, next}
 use Rattle.refusal.specs.Choice.{if_then_else_}
 use Rattle.rules.specs.declared.Standing.{Standing}
-use Rattle.rules.specs.declared.Answer.{Answer}
 use Rattle.rules.specs.declared.Answer.the-variants.{Done, Resending, Held, Ended}
 use Rattle.rules.specs.Account.{Side, U, H, moved}
 use Rattle.rules.specs.Ranges.{topBits, lowBits}

@@ -13,7 +13,7 @@ use Rattle.rules.specs.Audit.{Audit}
 use Rattle.rules.specs.Requests.{Request, posting, Call, starting, on, lent}
 use Rattle.rules.specs.Refusals.{sideAt}
 use Rattle.rules.specs.Calls.{account, call}
-use Rattle.rules.specs.History.{Run, lasts, ledger, accounted, called}
+use Rattle.rules.specs.History.{lasts, ledger, accounted, called}
 
 -- the buffer lent with a call
 abbrev pub buffer : Call → List ℕ

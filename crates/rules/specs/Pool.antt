@@ -1,12 +1,13 @@
--- The audit's last sum, over any holders of a pool.
+-- A pool that holders share: the audit's last sum, and what refusal 8 asks. Over any pool; slots are one.
+use mathlib.Core.Bool.{Bool, _||_}
 use mathlib.Core.List.{List, [], _∷_, map}
 use Prim.Native.Nat.{ℕ, _+_, max}
-use lib.Dec.{eqb}
-use lib.ListN.{length}
+use lib.Dec.{ltb, eqb}
+use lib.ListN.{length, set}
 use Rattle.refusal.specs.Choice.{if_then_else_}
 use Rattle.rules.specs.Account.{Side, closed}
 
--- what one open pair may hold for itself, and what it holds
+-- what one holder may hold whatever the others do, and what it holds
 pub record Claim : Type 0 where
   pub share : ℕ
   pub held : ℕ
@@ -15,6 +16,16 @@ pub record Claim : Type 0 where
 abbrev pub claimed : List Claim → ℕ
 claimed [] = 0
 claimed (c ∷ cs) = max (c .share) (c .held) + claimed cs
+
+-- 8: "the audit's last sum would exceed 256", if holder p claimed c
+abbrev pub exceeds : ℕ → List Claim → ℕ → Claim → Bool
+exceeds total cs p c = ltb total (claimed (set cs p c))
+
+-- 8: "held + new slots exceeds the ceiling", or that
+abbrev pub lacksRoom : ℕ → ℕ → List Claim → ℕ → Claim → Bool
+lacksRoom total ceiling cs p c = ltb ceiling (c .held) || exceeds total cs p c
+
+-- ---- slots as a pool
 
 -- "over open pairs (ready or ended)": a closed pair claims nothing
 abbrev pub claimOf : Side → Claim

@@ -3,7 +3,7 @@ use mathlib.Core.Bool.{Bool, false, not, _&&_, _||_}
 use mathlib.Core.List.{List, [], _∷_}
 use Prim.Native.Nat.{ℕ, _+_}
 use lib.Dec.{ltb, leb, eqb}
-use lib.ListN.{length, getD, set}
+use lib.ListN.{length, getD}
 use Rattle.psn.specs.Psn.{half, distance}
 use Rattle.refusal.specs.Refusals.{Line, _gives_}
 use Rattle.rules.specs.declared.Packet.{Packet}
@@ -15,7 +15,7 @@ use Rattle.rules.specs.Message.{slotsFor, psnsFor, isRead}
 use Rattle.rules.specs.Ranges.{badSettings, badPsn, badPost, badBudget, badSyndrome, badResponse, overCeiling}
 use Rattle.rules.specs.Acknowledge.{inside}
 use Rattle.rules.specs.Response.{unfit}
-use Rattle.rules.specs.Pool.{claimed, claims}
+use Rattle.rules.specs.Pool.{exceeds, lacksRoom, claims}
 use Rattle.rules.specs.Requests.{Request, opening, posting, emitting, acknowledging, responding, ticking, closing, lent, needed}
 
 -- pair p's side
@@ -77,17 +77,15 @@ outOfRange card (closing b) = false
 abbrev pub anyRead : List Packet → Bool
 anyRead ps = ltb (ahead isRead ps) (length ps)
 
--- 8: "the audit's last sum would exceed 256", if pair p claimed this
-abbrev pub exceeded : Card → ℕ → ℕ → ℕ → List Side → Bool
-exceeded card p share held a = ltb (card .slots) (claimed (set (claims a) p (record { share = share; held = held })))
-
 -- 8: "post: held + new slots exceeds the ceiling; post or open: the audit's last sum would exceed 256"
+abbrev pub noRoomToOpen : Card → ℕ → Settings → List Side → Bool
+noRoomToOpen card p st a = exceeds (card .slots) (claims a) p (record { share = st .share; held = 0 })
+
 abbrev pub noRoom : Card → ℕ → Post → List Side → Bool
 noRoom card p m a =
     let s = sideAt a p in
     let st = s .standing .settings in
-    let held = length (s .packets) + slotsFor st m in
-    ltb (st .ceiling) held || exceeded card p (st .share) held a
+    lacksRoom (card .slots) (st .ceiling) (claims a) p (record { share = st .share; held = length (s .packets) + slotsFor st m })
 
 -- "then 1 to 9": of a request to pair p, where the pairs stand as a says
 abbrev pub refusals : Card → Request → ℕ → List Side → List Line
@@ -101,6 +99,6 @@ refusals card q p a =
     ∷ ofPost q (λ m. overCeiling st m) gives 5
     ∷ ofPost q (λ m. m .fenced && anyRead (s .packets)) gives 6
     ∷ ofPost q (λ m. ltb half (distance (U s) (N s) + psnsFor st m)) gives 7
-    ∷ (ofOpening q (λ new. exceeded card p (new .share) 0 a) || ofPost q (λ m. noRoom card p m a)) gives 8
+    ∷ (ofOpening q (λ new. noRoomToOpen card p new a) || ofPost q (λ m. noRoom card p m a)) gives 8
     ∷ ofResponse q (λ r opcode len. inside r s && unfit r opcode len s) gives 9
     ∷ []

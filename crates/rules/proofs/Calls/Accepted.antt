@@ -1,10 +1,10 @@
 -- What it means that a request is not refused: no condition of 1 to 9 holds.
 use mathlib.Core.Path.{_≡_}
-use mathlib.Core.Bool.{Bool, true, false, not, _&&_, _||_}
+use mathlib.Core.Bool.{true, false, not, _&&_, _||_}
 use mathlib.Core.List.{List}
 use Prim.Native.Nat.{ℕ, _+_, _<_}
 use native.Mathlib.Omega.{arith}
-use lib.Dec.{eqb, ltb, leb}
+use lib.Dec.{eqb, ltb}
 use borrow.Author.Tests.{leb-false, eqb-true, not-false}
 use lib.ListN.{length}
 use Rattle.psn.specs.Psn.{half, distance}
@@ -17,7 +17,7 @@ use Rattle.rules.specs.Ranges.{overCeiling}
 use Rattle.rules.specs.Acknowledge.{inside}
 use Rattle.rules.specs.Response.{unfit}
 use Rattle.rules.specs.Requests.{Request, lent, needed}
-use Rattle.rules.specs.Refusals.{sideAt, ofOpening, ofPost, ofResponse, wrongState, outOfRange, anyRead, exceeded, noRoom, refusals}
+use Rattle.rules.specs.Refusals.{sideAt, ofOpening, ofPost, ofResponse, wrongState, outOfRange, anyRead, noRoomToOpen, noRoom, refusals}
 
 pub record Accepted (card : Card) (q : Request) (p : ℕ) (a : List Side) : Type 0 where
   pub pair : p < card .pairs
@@ -27,7 +27,7 @@ pub record Accepted (card : Card) (q : Request) (p : ℕ) (a : List Side) : Type
   pub ceiling : ofPost q (λ m. overCeiling (sideAt a p .standing .settings) m) ≡ false
   pub fence : ofPost q (λ m. m .fenced && anyRead (sideAt a p .packets)) ≡ false
   pub near : ofPost q (λ m. ltb half (distance (U (sideAt a p)) (N (sideAt a p)) + psnsFor (sideAt a p .standing .settings) m)) ≡ false
-  pub room : ofOpening q (λ new. exceeded card p (new .share) 0 a) || ofPost q (λ m. noRoom card p m a) ≡ false
+  pub room : ofOpening q (λ new. noRoomToOpen card p new a) || ofPost q (λ m. noRoom card p m a) ≡ false
   pub fits : ofResponse q (λ r opcode len. inside r (sideAt a p) && unfit r opcode len (sideAt a p)) ≡ false
 
 module _ (card : Card) (q : Request) (p : ℕ) (a : List Side) where

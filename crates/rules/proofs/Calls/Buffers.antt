@@ -1,15 +1,14 @@
 -- What a request writes fits the lent buffer, which keeps its length; and the count in the answer is the messages'.
 use mathlib.Core.Path.{_≡_, refl, ap}
-use mathlib.Core.Bool.{Bool, false, not}
-use mathlib.Core.List.{List, [], _∷_, _++_}
-use Prim.Native.Nat.{ℕ, zero, suc, _+_, _*_, _≤_, _<_}
+use mathlib.Core.Bool.{false, not}
+use mathlib.Core.List.{List, [], _∷_}
+use Prim.Native.Nat.{ℕ, zero, suc, _*_, _≤_, _<_}
 use native.Mathlib.Omega.{arith}
 use lib.Dec.{eqb, ltb}
-use borrow.Author.Tests.{ltb-false, leb-false, eqb-false}
-use lib.ListN.{length, take, drop, length-append, length-drop, length-take}
+use borrow.Author.Tests.{ltb-false, eqb-false}
+use lib.ListN.{length, drop, length-append, length-drop, length-take}
 use Rattle.refusal.proofs.Cases.{by-test, if-case}
 use Rattle.rules.specs.declared.Packet.{Packet}
-use Rattle.rules.specs.declared.Settings.{Settings}
 use Rattle.rules.specs.declared.Standing.{Standing}
 use Rattle.wire.specs.Bytes.{bytes}
 use Rattle.wire.proofs.Writing.{bytes-whole}
@@ -22,7 +21,7 @@ use Rattle.rules.specs.Timer.{timer}
 use Rattle.rules.specs.Emission.{waiting, going, outgoing, sent, headerOf, recordBytes, emission, emissions}
 use Rattle.rules.specs.Slots.{Tables, sides}
 use Rattle.rules.specs.Passes.Tables.{passes}
-use Rattle.rules.proofs.Passes.Decided.{sound, complete}
+use Rattle.rules.proofs.Passes.Decided.{sound}
 use Rattle.rules.specs.Requests.{Request, opening, posting, emitting, acknowledging, responding, ticking, closing, on, lent}
 use Rattle.rules.specs.Refusals.{sideAt, refusals}
 use Rattle.rules.specs.Calls.{written, effect, call}

@@ -7,7 +7,6 @@ use lib.ListN.{length, take, drop, length-append, length-take}
 use lib.Seq.{take-add, take-at}
 use Rattle.refusal.proofs.Cases.{by-test, if-case}
 use Rattle.rules.specs.declared.Packet.{Packet}
-use Rattle.rules.specs.declared.Settings.{Settings}
 use Rattle.rules.specs.Account.{Side}
 use Rattle.rules.specs.Message.{isLast}
 use Rattle.rules.specs.Outcome.{completions, Outcome, messagesOf, completed, closure}

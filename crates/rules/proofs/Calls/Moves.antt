@@ -4,13 +4,12 @@ use mathlib.Core.Logic.{_≢_}
 use mathlib.Core.List.{List, [], _∷_, map}
 use Prim.Native.Nat.{ℕ, suc, _+_, _≤_, _<_, suc-le-suc}
 use native.Mathlib.Omega.{arith}
-use lib.Dec.{eqb, ltb}
-use borrow.Author.Tests.{ltb-false, eqb-true, eqb-false}
+use lib.Dec.{eqb}
+use borrow.Author.Tests.{eqb-true, eqb-false}
 use lib.ListN.{length, set, drop, length-set, length-map, length-drop, List·getD-map}
 use lib.Seq.{getD-set-same, getD-set-other, ext-getD}
-use Rattle.refusal.proofs.Cases.{by-test, or-right}
+use Rattle.refusal.proofs.Cases.{by-test}
 use Rattle.rules.specs.declared.Packet.{Packet}
-use Rattle.rules.specs.declared.Settings.{Settings}
 use Rattle.rules.specs.declared.Standing.{Standing}
 use Rattle.rules.specs.declared.Slot.{Slot}
 use Rattle.rules.specs.declared.Pair.{Pair}
@@ -21,13 +20,13 @@ use Rattle.rules.specs.Slots.{Tables, noPair, slotAt, pairAt, spelled, h
 use Rattle.rules.specs.Pool.{Claim, claimed, claimOf, claims}
 use Rattle.rules.specs.Audit.{Whole, Audit}
 use Rattle.rules.specs.Requests.{Request, opening, posting, emitting, acknowledging, responding, ticking, closing}
-use Rattle.rules.specs.Refusals.{sideAt, refusals}
+use Rattle.rules.specs.Refusals.{sideAt}
 use Rattle.rules.specs.Calls.{Move, leave, join, effect, sideAfter, packetsAfter, tablesAfter}
 use Rattle.rules.proofs.Sides.InOrder.{in-order, ordered}
 use Rattle.rules.proofs.Slots.Queues.{all-slots, length-follow}
 use Rattle.rules.proofs.Slots.Freed.{freed-side, freed-others, freed-whole}
 use Rattle.rules.proofs.Slots.Stored.{stored-side, stored-others, stored-whole}
-use Rattle.rules.proofs.Pool.{allHeld, enough}
+use Rattle.rules.proofs.Pool.{allHeld, enough, has-room}
 use Rattle.rules.proofs.Calls.Accepted.{Accepted, is-ready}
 use Rattle.rules.proofs.Sides.Good.{Good, claim-open, length-packets}
 use Rattle.rules.proofs.Calls.Well.{Well, well-accepted, side-same, claim-at, posted-state}
@@ -161,7 +160,7 @@ module _ (card : Card) (t : Tables) where
         let st = s .standing .settings in
         let ready : s .standing .state ≡ 1 = is-ready (h .state) in
         let room = room-for (a .whole) p hp (record { share = st .share; held = length (s .packets) + slotsFor st m }) (slotsFor st m) (omega arith) refl
-          (ltb-false (card .slots) _ (or-right (ltb (st .ceiling) (length (s .packets) + slotsFor st m)) _ (h .room))) in
+          (has-room (card .slots) (st .ceiling) (claims (sides t)) p (record { share = st .share; held = length (s .packets) + slotsFor st m }) (h .room) .1) in
         moved-join (a .whole) p hp _ _ (posted-state m s ∙ ready) (omega (arith, length-packets st m (N s)))
     moved (emitting budget b) h = moved-leave (a .whole) p hp _ 0 (kept (emitting budget b) h)
     moved (acknowledging r y b) h = moved-leave (a .whole) p hp _ _ (kept (acknowledging r y b) h)

@@ -1,11 +1,11 @@
 -- The room clause: within its share a post is refused by none but 1 to 7.
-use mathlib.Core.Path.{_≡_}
+use mathlib.Core.Path.{_≡_, ap, _∙_}
 use mathlib.Core.Bool.{false, _&&_}
 use Prim.Native.Nat.{ℕ, _+_, _≤_, _<_}
 use native.Mathlib.Omega.{arith}
 use lib.Dec.{eqb, ltb, leb}
-use borrow.Author.Tests.{le-ltb, leb-false}
-use lib.ListN.{length, length-map}
+use borrow.Author.Tests.{leb-false}
+use lib.ListN.{length, getD, length-map}
 use Rattle.refusal.proofs.Cases.{by-test, if-case}
 use Rattle.rules.specs.declared.Post.{Post}
 use Rattle.psn.specs.Psn.{half, distance}
@@ -15,7 +15,7 @@ use Rattle.rules.specs.Account.{noSide, U, N}
 use Rattle.rules.specs.Message.{slotsFor, psnsFor}
 use Rattle.rules.specs.Ranges.{badPost, overCeiling}
 use Rattle.rules.specs.Slots.{Tables, queue, side, sides}
-use Rattle.rules.specs.Pool.{claimOf, claims}
+use Rattle.rules.specs.Pool.{Claim, claimOf, claims}
 use Rattle.rules.specs.Audit.{Audit}
 use Rattle.rules.proofs.Passes.Decided.{complete}
 use Rattle.rules.specs.Requests.{posting, on}
@@ -23,7 +23,7 @@ use Rattle.rules.specs.Refusals.{sideAt, wrongState, anyRead, noRoom, re
 use Rattle.rules.specs.Calls.{call}
 use Rattle.refusal.specs.Refusals.{firstGiven}
 use Rattle.rules.proofs.Ranges.{in-range}
-use Rattle.rules.proofs.Pool.{claimed-set}
+use Rattle.rules.proofs.Pool.{within-share}
 use Rattle.rules.proofs.Calls.Accepted.{is-ready}
 use Rattle.rules.proofs.Sides.Good.{claim-open}
 use Rattle.rules.proofs.Calls.Well.{claim-at}
@@ -37,16 +37,14 @@ module _ (card : Card) where
         → noRoom card p m (sides t) ≡ false
     within hp ready l =
         let st = side t p .standing .settings in
-        let held = length (side t p .packets) + slotsFor st m in
-        let f = in-range (a .bounded p hp (omega arith) .settings) in
         let w = well-of card t a in
-        let n = side-length t p in
-        let c =
-            claimed-set (claims (sides t)) p (record { share = st .share; held = held }) (claimOf noSide)
-            (omega (arith, w .count, length-map (sides t) claimOf)) in
+        let mine : getD (claims (sides t)) p (claimOf noSide) .share ≡ st .share =
+            ap (λ (c : Claim). c .share) (claim-at (sides t) p ∙ ap claimOf (side-at t p) ∙ claim-open (side t p) (omega arith)) in
         rw (side-at t p)
-        (rw (le-ltb (st .ceiling) held (omega (arith, f .share-high)))
-        (le-ltb (card .slots) _ (omega (arith, a .shares, rw (claim-at (sides t) p, side-at t p, claim-open (side t p) (omega arith)) at c))))
+        (within-share (card .slots) (st .ceiling) (claims (sides t)) p
+        (record { share = st .share; held = length (side t p .packets) + slotsFor st m }) (claimOf noSide)
+        (omega (arith, w .count, length-map (sides t) claimOf)) (a .shares) mine
+        (in-range (a .bounded p hp (omega arith) .settings) .share-high) (omega (arith, side-length t p)))
 
     number : length (queue t p) + slotsFor (side t p .standing .settings) m ≤ side t p .standing .settings .share
         → firstGiven (refusals card (posting m) p (sides t)) ≤ 7

@@ -1,18 +1,15 @@
 -- Every request that is not refused keeps, on the account, what the audit asks.
 use mathlib.Core.Path.{_≡_, refl, ap, _∙_}
 use mathlib.Core.Logic.{_≢_}
-use mathlib.Core.Bool.{Bool, true, false, not, true≢false}
 use mathlib.Core.List.{List, [], _∷_, _++_}
-use Prim.Native.Nat.{ℕ, zero, suc, _+_, _^_, _≤_, _<_}
+use Prim.Native.Nat.{ℕ, zero, suc, _+_, _≤_, _<_}
 use native.Mathlib.Omega.{arith}
-use lib.Dec.{eqb, ltb}
-use borrow.Author.Tests.{ltb-false, leb-false, eqb-true, eqb-false, eq-eqb, lt-ltb, not-false}
+use lib.Dec.{eqb}
+use borrow.Author.Tests.{ltb-false, leb-false, eqb-true, eqb-false, not-false}
 use lib.ListN.{length, getD, set, length-set, length-map, length-append, drop-of-length-le, List·getD-map}
 use lib.Seq.{getD-set-same, getD-set-other}
 use Rattle.refusal.proofs.Cases.{by-test, or-left, or-right}
-use Rattle.refusal.specs.Choice.{anyOf}
 use Rattle.rules.specs.declared.Packet.{Packet}
-use Rattle.rules.specs.declared.Settings.{Settings}
 use Rattle.rules.specs.declared.Post.{Post}
 use Rattle.psn.specs.Psn.{psns, half}
 use Rattle.rules.specs.Card.{Card}
@@ -22,11 +19,10 @@ use Rattle.rules.specs.Ranges.{badSettings, badPsn}
 use Rattle.rules.specs.Posting.{posted}
 use Rattle.rules.specs.Emission.{emitted}
 use Rattle.rules.specs.Pool.{Claim, claimed, claimOf, claims}
-use Rattle.rules.specs.Messages.{Allowed}
 use Rattle.rules.specs.Requests.{Request, opening, posting, emitting, acknowledging, responding, ticking, closing}
 use Rattle.rules.specs.Refusals.{sideAt}
 use Rattle.rules.specs.Calls.{effect, sideAfter}
-use Rattle.rules.proofs.Pool.{claimed-set}
+use Rattle.rules.proofs.Pool.{claimed-set, has-room}
 use Rattle.rules.proofs.Calls.Accepted.{Accepted, is-ready}
 use Rattle.rules.proofs.Sides.Good.{Good, Follows, claim-open, length-packets, good-closed, good-opened, good-acknowledge, good-timer, good-response, good-emitted, good-posted}
 
@@ -108,13 +104,14 @@ module _ (card : Card) where
         let s = sideAt a p in
         let st = s .standing .settings in
         let ready = is-ready (h .state) in
+        let room = has-room (card .slots) (st .ceiling) (claims a) p (record { share = st .share; held = length (s .packets) + slotsFor st m }) (h .room) in
         rw (posted-is m s)
         (well-set (posted m s)
         (good-posted card s (w .good p hp) ready m
         (record { in-range = h .range; in-ceiling = h .ceiling })
         (ltb-false half _ (h .near))
-        (ltb-false (st .ceiling) (length (s .packets) + slotsFor st m) (or-left _ _ (h .room))))
-        (rw (claim-posted m s ready) (ltb-false (card .slots) _ (or-right (ltb (st .ceiling) (length (s .packets) + slotsFor st m)) _ (h .room)))))
+        (room .0))
+        (rw (claim-posted m s ready) (room .1)))
     well-accepted (emitting budget b) h =
         rw (emitted-is budget (sideAt a p)) (well-less (emitted budget (sideAt a p)) (good-emitted card (sideAt a p) (w .good p hp) (is-ready (h .state)) budget))
     well-accepted (acknowledging r y b) h =

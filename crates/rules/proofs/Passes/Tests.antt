@@ -1,12 +1,10 @@
 -- Tests joined by `and`, lists of tests, and what two of the audit's tests say.
 use mathlib.Core.Path.{_≡_, refl}
-use mathlib.Core.Bool.{Bool, true, false, not, _&&_, false≢true}
+use mathlib.Core.Bool.{Bool, true, false, _&&_, false≢true}
 use mathlib.Core.List.{List, [], _∷_}
-use Prim.Native.Nat.{ℕ, _+_, _^_}
-use lib.Dec.{eqb, ltb}
-use borrow.Author.Tests.{ltb-true, ltb-false, leb-true, leb-false, eqb-true, eq-eqb, le-leb, lt-leb, lt-ltb, le-ltb, not-true}
-use Rattle.refusal.specs.Choice.{anyOf}
-use Rattle.refusal.proofs.Cases.{by-test, or-left, or-right}
+use Prim.Native.Nat.{ℕ}
+use lib.Dec.{eqb}
+use borrow.Author.Tests.{eqb-true, eq-eqb, not-true}
 use Rattle.rules.specs.declared.Packet.{Packet}
 use Rattle.rules.specs.declared.Settings.{Settings}
 use Rattle.rules.specs.declared.Post.{Post}
@@ -14,7 +12,6 @@ use Rattle.rules.specs.Ranges.{badPost, overCeiling}
 use Rattle.rules.specs.Messages.{Allowed}
 use Rattle.rules.specs.Passes.Stage.{same, allowedTo}
 use Rattle.rules.specs.Passes.Tests.{_and_, allOf}
-use Rattle.rules.proofs.Sides.Good.{length-packets}
 
 pub both : {a b : Bool} → a and b ≡ true → (a ≡ true) × (b ≡ true)
 unfolding _and_

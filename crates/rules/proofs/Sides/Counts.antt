@@ -2,7 +2,6 @@
 use mathlib.Core.Path.{_≡_, refl, ap}
 use mathlib.Core.Logic.{_≢_}
 use mathlib.Core.Bool.{Bool, false, not, _&&_, _||_}
-use mathlib.Core.List.{List, [], _∷_}
 use Prim.Native.Nat.{ℕ, suc, _+_, _-_, _≤_, _<_}
 use native.Mathlib.Omega.{arith}
 use lib.Dec.{eqb, ltb, leb}
@@ -11,7 +10,6 @@ use lib.ListN.{length}
 use Rattle.refusal.specs.Choice.{if_then_else_}
 use Rattle.refusal.proofs.Cases.{by-test, if-case}
 use Rattle.psn.specs.Psn.{next}
-use Rattle.rules.specs.declared.Packet.{Packet}
 use Rattle.rules.specs.declared.Settings.{Settings}
 use Rattle.rules.specs.declared.Line.{Line}
 use Rattle.rules.specs.declared.Clock.{Clock}

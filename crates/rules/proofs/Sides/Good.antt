@@ -1,6 +1,6 @@
 -- What the audit asks of one pair's side, and that every request keeps it.
 use mathlib.Core.Path.{_≡_, refl, sym, ap, _∙_}
-use mathlib.Core.Bool.{Bool, true, false, _&&_, true≢false}
+use mathlib.Core.Bool.{true, false, _&&_, true≢false}
 use mathlib.Core.List.{List, [], _∷_, _++_, map}
 use Prim.Native.Nat.{ℕ, zero, suc, _+_, _-_, _/_, _≤_, _<_, max}
 use native.Mathlib.Omega.{arith}
@@ -9,7 +9,7 @@ use lib.Pow.{pow-pos, pow-mono}
 use lib.Dec.{eqb}
 use borrow.Author.Tests.{ltb-true, eqb-false, ne-eqb}
 use lib.ListN.{length, getD, drop, length-drop, length-append, length-map}
-use Rattle.refusal.proofs.Cases.{by-test, if-case}
+use Rattle.refusal.proofs.Cases.{by-test, if-case, or-left}
 use Rattle.rules.specs.declared.Packet.{Packet}
 use Rattle.rules.specs.declared.Settings.{Settings}
 use Rattle.rules.specs.declared.Post.{Post}
@@ -39,7 +39,7 @@ use Rattle.rules.proofs.Sides.Acknowledge.{Fine, fine-acknowledge}
 use Rattle.rules.proofs.Sides.Response.{fine-response}
 use Rattle.rules.proofs.Sides.Timer.{fine-timer}
 use Rattle.rules.proofs.Sides.Emitted.{ordered-emitted}
-use Rattle.rules.proofs.Sides.Times.{Lows, Timely, timely-acknowledge, timely-response, timely-timer, or-false}
+use Rattle.rules.proofs.Sides.Times.{Lows, Timely, timely-acknowledge, timely-response, timely-timer}
 
 -- ---- every packet of a list
 
@@ -241,7 +241,7 @@ module _ (card : Card) where
         good-after (response r s)
         (fine-response s ready (g .ordered ready) r low (λ h.
           let u : unfit r opcode len s ≡ false = rw h at fits in
-          let one = covered (or-false _ _ (or-false _ _ u .0) .0) in
+          let one = covered (or-left _ _ (or-left _ _ u)) in
           (one, span-small (s .standing .settings) (in-range (f .settings) .pmtu-low) (readAt r s) (each-at Short (s .packets) _ noPacket (held-short (s .standing .settings) (g .messages)) one))))
         (timely-response card s ready f (g .ordered ready) (g .timed ready) r low)
       where

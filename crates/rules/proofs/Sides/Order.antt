@@ -10,7 +10,7 @@ use lib.Pow.{pow-pos}
 use lib.Dec.{eqb, ltb}
 use borrow.Author.Tests.{ltb-true, ltb-false, eqb-true, eqb-false, lt-ltb, le-ltb}
 use lib.ListN.{length, getD, drop}
-use Rattle.refusal.proofs.Cases.{by-test, if-case}
+use Rattle.refusal.proofs.Cases.{by-test, if-case, and-none}
 use Rattle.rules.specs.declared.Packet.{Packet}
 use Rattle.rules.specs.declared.Settings.{Settings}
 use Rattle.rules.specs.declared.Standing.{Standing}
@@ -67,10 +67,6 @@ span-pos s p = if-case (λ (x : ℕ). 1 ≤ x) (isRead p) (λ e. packets-pos s (
 and-right : (a b : Bool) → a && b ≡ true → b ≡ true
 and-right true b e = e
 and-right false b e = absurd (false≢true e)
-
-pub and-false : (a : Bool) → a && false ≡ false
-and-false true = refl
-and-false false = refl
 
 module _ (t : Standing) (u-low : t .line .u < psns) (b : ℕ) where
   pub unanswered-is : (p : Packet) → p .psn < psns → distance (t .line .u) (p .psn) + span (t .settings) p ≤ half → unanswered t p ≡ p .psn
@@ -218,7 +214,7 @@ module _ (t : Standing) (b : ℕ) (z : distance (t .line .u) b ≡ 0) where
 
   pub none-passed : (ps : List Packet) → length ps ≤ ahead (passedBy b t) ps
   none-passed [] = omega arith
-  none-passed (p ∷ ps) = rw (not-before (unanswered t p), and-false (isRead p)) (suc-le-suc (none-passed ps))
+  none-passed (p ∷ ps) = rw (not-before (unanswered t p), and-none (isRead p)) (suc-le-suc (none-passed ps))
 
   pub none-before : (ps : List Packet) → ahead (λ p. not (before (t .line .u) (p .psn) b)) ps ≡ 0
   none-before [] = refl

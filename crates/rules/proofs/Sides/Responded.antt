@@ -7,7 +7,7 @@ use native.Mathlib.Omega.{arith}
 use native.Mathlib.Nat.{le-of-suc-le-suc, not-suc-le-zero}
 use borrow.Author.Tests.{ltb-true, ltb-false, le-ltb}
 use lib.ListN.{length, drop}
-use Rattle.refusal.proofs.Cases.{by-test, if-case}
+use Rattle.refusal.proofs.Cases.{by-test, if-case, and-none}
 use Rattle.rules.specs.declared.Packet.{Packet}
 use Rattle.rules.specs.declared.Standing.{Standing}
 use Rattle.psn.specs.Psn.{psns, half, distance, plus, before}
@@ -19,7 +19,7 @@ use Rattle.rules.specs.Order.{_or_, left, right, Past, Start}
 use Rattle.rules.proofs.Sides.InOrder.{RunsLow, StartsLow, InOrder}
 use Rattle.psn.proofs.Laws.{distance-same, distance-plus, distance-round, distance-step, distance-from}
 use Rattle.rules.proofs.Sides.Scan.{no-read}
-use Rattle.rules.proofs.Sides.Order.{and-false, runs-end, runs-from, starts-of, past-of, span-pos, Kept, ordered-after}
+use Rattle.rules.proofs.Sides.Order.{runs-end, runs-from, starts-of, past-of, span-pos, Kept, ordered-after}
 
 -- a record of a run starts no nearer than the run
 pub start-past : (size : Packet → ℕ) (u o n a : ℕ) (ps : List Packet) → RunsLow size u o ps n → Start a ps → o ≤ distance u a
@@ -116,7 +116,7 @@ module _ (t : Standing) (u-low : t .line .u < psns) (r : ℕ) (r-low : r < psns)
   none-covers : (o : ℕ) (ps : List Packet) → RunsLow (span (t .settings)) (t .line .u) o ps n → distance (t .line .u) r < o → length ps ≤ ahead (covers (t .settings) r) ps
   none-covers o [] q l = omega arith
   none-covers o (p ∷ ps) q l =
-      rw (le-ltb (distance (p .psn) r) (span (t .settings) p) far, and-false (isRead p)) (suc-le-suc (none-covers (o + span (t .settings) p) ps (q .2) (omega arith)))
+      rw (le-ltb (distance (p .psn) r) (span (t .settings) p) far, and-none (isRead p)) (suc-le-suc (none-covers (o + span (t .settings) p) ps (q .2) (omega arith)))
     where
       far : span (t .settings) p ≤ distance (p .psn) r
       far =

@@ -1,6 +1,6 @@
 -- What a program does to release before b: it looks from the front until a record stops it. On an ordered pair that is document 01's rule.
 use mathlib.Core.Path.{_≡_, refl, sym, ap}
-use mathlib.Core.Bool.{Bool, true, false, not, _&&_, _||_, true≢false}
+use mathlib.Core.Bool.{Bool, true, false, not, _||_, true≢false}
 use mathlib.Core.List.{List, [], _∷_}
 use Prim.Native.Nat.{ℕ, suc, _+_, _≤_, _<_}
 use native.Mathlib.Omega.{arith}
@@ -8,7 +8,7 @@ use native.Mathlib.Nat.{le-of-suc-le-suc, not-suc-le-zero}
 use lib.Dec.{ltb}
 use borrow.Author.Tests.{ltb-true, ltb-false, lt-ltb, le-ltb}
 use lib.ListN.{length}
-use Rattle.refusal.proofs.Cases.{by-test}
+use Rattle.refusal.proofs.Cases.{by-test, or-any, and-left}
 use Rattle.rules.specs.declared.Packet.{Packet}
 use Rattle.rules.specs.declared.Standing.{Standing}
 use Rattle.psn.specs.Psn.{psns, half, distance, before}
@@ -23,14 +23,6 @@ use Rattle.psn.proofs.Laws.{distance-same}
 -- the test of a by-value step: this record stays
 abbrev pub stays : ℕ → Standing → Packet → Bool
 stays b t p = isRead p || not (before (t .line .u) (p .psn) b)
-
-and-left : (a b : Bool) → a && b ≡ true → a ≡ true
-and-left true b e = refl
-and-left false b e = e
-
-pub or-true : (a : Bool) → a || true ≡ true
-or-true true = refl
-or-true false = refl
 
 module _ (t : Standing) (u-low : t .line .u < psns) (b n : ℕ) (near : distance (t .line .u) n ≤ half) where
   -- a read that is before b is passed
@@ -62,7 +54,7 @@ module _ (t : Standing) (u-low : t .line .u < psns) (b n : ℕ) (near : distance
       (λ e. absurd (not-suc-le-zero (rw e at a)))
       (λ e. by-test (before (t .line .u) (p .psn) b)
         (λ sure. rw (no-read o p ps r e sure, sure) (ap suc (scan-clear ps (o + span (t .settings) p) (r .2) (le-of-suc-le-suc (rw e at a)))))
-        (λ sure. rw (sure, or-true (isRead p))))
+        (λ sure. rw (sure, or-any (isRead p))))
 
 -- how many leave is how many the scan passes over
 pub released-is : (s : Side) → InOrder s → (b : ℕ) → release b s .released ≡ ahead (stays b (s .standing)) (s .packets)

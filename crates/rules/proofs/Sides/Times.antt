@@ -1,6 +1,6 @@
 -- Each event's outcome keeps all that the audit asks of one pair: counts, times, PSNs.
 use mathlib.Core.Path.{_≡_, refl, ap}
-use mathlib.Core.Bool.{Bool, true, false, not, _&&_, _||_, true≢false}
+use mathlib.Core.Bool.{true, false, not, _&&_, _||_}
 use mathlib.Core.List.{List, [], _∷_}
 use Prim.Native.Nat.{ℕ, zero, suc, _+_, _*_, _/_, _%_, _≤_, _<_}
 use native.Mathlib.Omega.{arith}
@@ -8,7 +8,7 @@ use lib.Pow.{pow-pos}
 use lib.Dec.{eqb, ltb, leb}
 use borrow.Author.Tests.{ltb-true, ltb-false, eqb-false, ne-eqb, not-false}
 use lib.ListN.{length, getD}
-use Rattle.refusal.proofs.Cases.{by-test, if-case}
+use Rattle.refusal.proofs.Cases.{by-test, if-case, or-left, or-right}
 use Rattle.rules.specs.declared.Settings.{Settings}
 use Rattle.rules.specs.declared.Line.{Line}
 use Rattle.rules.specs.declared.Standing.{Standing}
@@ -24,10 +24,6 @@ use Rattle.rules.proofs.Sides.InOrder.{InOrder}
 use Rattle.rules.specs.Audit.{Bounded, Timed, longestHold}
 use Rattle.psn.proofs.Laws.{distance-step, distance-same}
 use Rattle.rules.proofs.Sides.Response.{clear}
-
-pub or-false : (a b : Bool) → a || b ≡ false → (a ≡ false) × (b ≡ false)
-or-false true b e = absurd (true≢false e)
-or-false false b e = (refl, e)
 
 pub record Lows (l : Line) : Type 0 where
   pub u-low : l .u < psns
@@ -161,9 +157,9 @@ module _ (card : Card) (s : Side) (ready : s .standing .state ≡ 1) (f : Bounde
       (λ l. record {
         lows = alive _ refl; retries = f .retries; rnrs = f .rnrs; hold = w .hold;
         elapsed = ltb-true (s .standing .clock .elapsed + e) (timeoutOf st) l;
-        still = λ g. absurd (eqb-false (U s) (H s) (or-false (eqb (U s) (H s)) _ q .0) g);
+        still = λ g. absurd (eqb-false (U s) (H s) (or-left (eqb (U s) (H s)) _ q) g);
         on-hold = λ g. absurd (omega (arith, ltb-false 0 (s .standing .clock .hold) h));
-        untimed = λ g. absurd (eqb-false (st .timeout) 0 (or-false (eqb (U s) (H s)) _ q .1) g) }) (λ _.
+        untimed = λ g. absurd (eqb-false (st .timeout) 0 (or-right (eqb (U s) (H s)) _ q) g) }) (λ _.
       if-case (λ (x : Outcome). Timely st (x .standing)) (eqb (s .standing .clock .retries) 0)
       (λ _. calm (λ _. record { u-low = f .n-low; x-low = f .n-low; h-low = f .n-low; n-low = f .n-low }) (f .retries) (f .rnrs) (omega arith) refl)
       (λ _. calm (alive _ refl) (omega (arith, f .retries)) (f .rnrs) (w .hold) refl))))

@@ -1,7 +1,7 @@
 -- Links and the lists that they spell.
 use mathlib.Core.Path.{_≡_, refl, sym, ap, _∙_}
 use mathlib.Core.Logic.{_≢_}
-use mathlib.Core.Bool.{Bool, true, false}
+use mathlib.Core.Bool.{true}
 use mathlib.Core.List.{List, [], _∷_, _++_, append-nil}
 use Prim.Native.Nat.{ℕ, zero, suc, _+_, _≤_, _<_}
 use native.Mathlib.Omega.{arith}
@@ -9,7 +9,6 @@ use lib.Dec.{eqb, ltb}
 use borrow.Author.Tests.{ltb-true, ltb-false, eqb-true, eqb-false, eq-eqb, ne-eqb}
 use lib.ListN.{length, set, take, drop, length-set, take-append-drop}
 use lib.Seq.{set-out, getD-set-same, getD-set-other, set-getD, set-set, set-comm}
-use Rattle.refusal.specs.Choice.{if_then_else_}
 use Rattle.refusal.proofs.Cases.{by-test}
 use Rattle.rules.specs.declared.Packet.{Packet}
 use Rattle.rules.specs.declared.Queue.{Queue}
