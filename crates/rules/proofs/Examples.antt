@@ -87,7 +87,7 @@ half-way =
 pub half-queues :
     (free (called tiny half-way .last) ∷ queues (called tiny half-way .last)) ≡ (1 ∷ []) ∷ [] ∷ (2 ∷ 3 ∷ 0 ∷ []) ∷ []
 unfolding call passes noneOf has put pairPasses recordPasses linksPass queuePasses _and_ same allowedTo single opens closes goesOn badSettings badPost fresh
-  sideAt sideOf slotAt pairAt relinked holding arranged distance packetsOf posted emitted release acknowledge
+    sideAt sideOf slotAt pairAt relinked holding arranged distance packetsOf posted emitted release acknowledge
 half-queues = refl
 
 -- all three go out; then a NAK of code 3 for PSN 1 ends the pair, which is closed
@@ -105,7 +105,7 @@ four len ticket hi lo high low = 0 ∷ 0 ∷ 0 ∷ len ∷ 0 ∷ 0 ∷ 0 ∷ tic
 pub ended-replies :
     replies (run (call tiny) ending (called tiny half-way .last) .said) ≡ Count 3 ∷ Answered Ended 2 0 ∷ done ∷ []
 unfolding call passes noneOf has put pairPasses recordPasses linksPass queuePasses _and_ same allowedTo single opens closes goesOn badSettings badPost fresh
-  sideAt sideOf slotAt pairAt relinked holding arranged distance packetsOf posted emitted release acknowledge
+    sideAt sideOf slotAt pairAt relinked holding arranged distance packetsOf posted emitted release acknowledge
 ended-replies = refl
 
 -- the records that go out, then ticket and status of both messages, flushed; what is not written stays
@@ -116,8 +116,8 @@ pub ended-buffers :
     ∷ replicate 8 9
     ∷ []
 unfolding call passes noneOf has put pairPasses recordPasses linksPass queuePasses _and_ same allowedTo single opens closes goesOn badSettings badPost fresh
-  sideAt sideOf slotAt pairAt relinked holding arranged distance packetsOf posted emitted release acknowledge
-  writeOf header.written bytes laid layout headerLength
+    sideAt sideOf slotAt pairAt relinked holding arranged distance packetsOf posted emitted release acknowledge
+    writeOf header.written bytes laid layout headerLength
 ended-buffers = refl
 
 -- a read of 600 bytes at PSNs 16,777,215 to 1, a Send at 2: answered in part, passed by an ACK, then answered
@@ -154,7 +154,7 @@ pub read-replies :
     ∷ Answered Done 1 0
     ∷ []
 unfolding call passes noneOf has put pairPasses recordPasses linksPass queuePasses _and_ same allowedTo single opens closes goesOn badSettings badPost fresh
-  sideAt sideOf slotAt pairAt relinked holding arranged distance packetsOf posted emitted release acknowledge response
+    sideAt sideOf slotAt pairAt relinked holding arranged distance packetsOf posted emitted release acknowledge response
 read-replies = refl
 
 -- after one response and the ACK that passed the read, it goes out again from U: PSN 0, address 5,256, length 344, offset 1,256; then the Send
@@ -168,8 +168,8 @@ pub read-again :
     ++ (9 ∷ []))
     ∷ []
 unfolding call passes noneOf has put pairPasses recordPasses linksPass queuePasses _and_ same allowedTo single opens closes goesOn badSettings badPost fresh
-  sideAt sideOf slotAt pairAt relinked holding arranged distance packetsOf posted emitted release acknowledge response
-  writeOf header.written bytes laid layout headerLength
+    sideAt sideOf slotAt pairAt relinked holding arranged distance packetsOf posted emitted release acknowledge response
+    writeOf header.written bytes laid layout headerLength
 read-again = refl
 
 -- a timeout of 8,192 ns and one retry of each kind: resent, then held for 10,000 ns by an RNR, resumed, and ended by the next timeout
@@ -212,5 +212,5 @@ pub timers :
     ∷ Refused 2
     ∷ []
 unfolding call passes noneOf has put pairPasses recordPasses linksPass queuePasses _and_ same allowedTo single opens closes goesOn badSettings badPost fresh
-  sideAt sideOf slotAt pairAt relinked holding arranged distance packetsOf posted emitted release acknowledge timer
+    sideAt sideOf slotAt pairAt relinked holding arranged distance packetsOf posted emitted release acknowledge timer
 timers = refl

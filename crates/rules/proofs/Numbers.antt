@@ -1,3 +1,4 @@
+-- "These eight proved as one statement over one list": by computing.
 use mathlib.Core.Path.{_≡_, refl}
 use mathlib.Core.List.{[], _∷_}
 use Rattle.psn.specs.Psn.{distance}

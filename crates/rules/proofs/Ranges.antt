@@ -75,14 +75,25 @@ unfolding badPost
 allow {s} {m} a =
     record {
       in-range =
-          fail-all (postFaults m)
-          ( le-ltb 2 (m .kind) (a .kind)
-          , (read
-          , (lt-leb (2 ^ 31) (m .length) (a .short)
-          , (lt-leb (2 ^ 32) (m .offset) (a .offset)
-          , (le-ltb (2 ^ 32) (m .offset + m .length) (a .fits)
-          , (reach
-          , tt))))));
+          fail-all (postFaults m) (
+            le-ltb 2 (m .kind) (a .kind),
+            (
+              read,
+              (
+                lt-leb (2 ^ 31) (m .length) (a .short),
+                (
+                  lt-leb (2 ^ 32) (m .offset) (a .offset),
+                  (
+                    le-ltb (2 ^ 32) (m .offset + m .length) (a .fits),
+                    (
+                      reach,
+                      tt,
+                    ),
+                  ),
+                ),
+              ),
+            ),
+          );
       in-ceiling = le-ltb (s .ceiling) (slotsFor s m) (a .room);
     }
   where

@@ -8,7 +8,6 @@ use Rattle.rules.specs.Account.{Side, U, X, H, N}
 use Rattle.rules.specs.Message.{span}
 
 infixr 4 _or_
-
 pub data _or_ (A B : Type 0) : Type 0 where
   left : A → A or B
   right : B → A or B

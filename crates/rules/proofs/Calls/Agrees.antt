@@ -41,11 +41,11 @@ module _ (card : Card) where
   agrees (on p q) t a =
       rw (complete card t a)
       (by-test (eqb (firstGiven (refusals card q p (sides t))) 0)
-        (λ e.
-          let h = accepted card q p (sides t) e in
-          let hp = h .pair in
-          rw e (record { said = refl; same = moved card t a p hp q h .same; audit = accepted-audit card t a p hp q h }))
-        (λ e. rw e (record { said = refl; same = refl; audit = a })))
+      (λ e.
+      let h = accepted card q p (sides t) e in
+      let hp = h .pair in
+      rw e (record { said = refl; same = moved card t a p hp q h .same; audit = accepted-audit card t a p hp q h }))
+      (λ e. rw e (record { said = refl; same = refl; audit = a })))
 
   -- ---- any calls
 

@@ -72,11 +72,13 @@ module _ (card : Card) (a : List Side) (w : Well card a) (p : ℕ) where
   buffer-kept (emitting budget b) h =
       let s = sideAt a p in
       length-written (emissions (s .standing) (outgoing budget s)) b
-      (omega (arith,
+      (omega (
+        arith,
         ltb-false (length b) (recordBytes * budget) (h .buffer),
         length-emissions (s .standing) (outgoing budget s),
         length-take (going budget s) (waiting s),
-        going-most budget s))
+        going-most budget s,
+      ))
   buffer-kept (acknowledging r y b) h = events (acknowledge r y (sideAt a p)) b (h .pair) (omega (arith, ready (h .state))) (h .buffer)
   buffer-kept (responding r o l b) h = events (response r (sideAt a p)) b (h .pair) (omega (arith, ready (h .state))) (h .buffer)
   buffer-kept (ticking e b) h = events (timer e (sideAt a p)) b (h .pair) (omega (arith, ready (h .state))) (h .buffer)
@@ -89,7 +91,7 @@ unfolding call
 call-buffer card t p q =
     by-test (passes card t)
     (λ e. rw e
-      (by-test (eqb (firstGiven (refusals card q p (sides t))) 0)
-        (λ z. rw z (buffer-kept card (sides t) (well-of card t (sound card t e)) p q (accepted card q p (sides t) z)))
-        (λ z. rw z)))
+    (by-test (eqb (firstGiven (refusals card q p (sides t))) 0)
+    (λ z. rw z (buffer-kept card (sides t) (well-of card t (sound card t e)) p q (accepted card q p (sides t) z)))
+    (λ z. rw z)))
     (λ e. rw e)

@@ -36,12 +36,14 @@ pub length-completed : (o : Outcome) (s : Side) → length (completed o s) ≡ 2
 length-completed o s =
     let front = take (o .released) (s .packets) in
     let rear = take (o .flushed) (drop (o .released) (s .packets)) in
-    omega (arith,
+    omega (
+      arith,
       length-append (completions 0 front) (completions 1 rear),
       length-completions 0 front,
       length-completions 1 rear,
       messages-append front rear,
-      ap messagesOf (take-add (o .released) (o .flushed) (s .packets)))
+      ap messagesOf (take-add (o .released) (o .flushed) (s .packets)),
+    )
 
 pub completed-most : (o : Outcome) (s : Side) → length (completed o s) ≤ 2 * length (s .packets)
 completed-most o s =

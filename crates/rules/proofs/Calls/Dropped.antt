@@ -78,10 +78,10 @@ module _ (card : Card) where
     dropped-acknowledge r y b k j =
         by-test (passes card t)
         (λ e. rw e (by-test (eqb (firstGiven (refusals card (acknowledging r y b) p (sides t))) 0)
-          (λ z. rw z (λ d.
-            let h = accepted card (acknowledging r y b) p (sides t) z .pair in
-            rw (drop-acknowledge r y (sideAt (sides t) p) (cc)) (nothing-moves card t (sound card t e .whole) p h, refl)))
-          (λ z. rw z (λ d. (refl, refl)))))
+        (λ z. rw z (λ d.
+        let h = accepted card (acknowledging r y b) p (sides t) z .pair in
+        rw (drop-acknowledge r y (sideAt (sides t) p) (cc)) (nothing-moves card t (sound card t e .whole) p h, refl)))
+        (λ z. rw z (λ d. (refl, refl)))))
         (λ e. rw e (λ d. (refl, refl)))
 
     pub dropped-response : (r o l : ℕ) (b : List ℕ) (k j : ℕ) → call card (on p (responding r o l b)) t .said .reply ≡ Answered Dropped k j
@@ -90,8 +90,8 @@ module _ (card : Card) where
     dropped-response r o l b k j =
         by-test (passes card t)
         (λ e. rw e (by-test (eqb (firstGiven (refusals card (responding r o l b) p (sides t))) 0)
-          (λ z. rw z (λ d.
-            let h = accepted card (responding r o l b) p (sides t) z .pair in
-            rw (drop-response r (sideAt (sides t) p) (cc)) (nothing-moves card t (sound card t e .whole) p h, refl)))
-          (λ z. rw z (λ d. (refl, refl)))))
+        (λ z. rw z (λ d.
+        let h = accepted card (responding r o l b) p (sides t) z .pair in
+        rw (drop-response r (sideAt (sides t) p) (cc)) (nothing-moves card t (sound card t e .whole) p h, refl)))
+        (λ z. rw z (λ d. (refl, refl)))))
         (λ e. rw e (λ d. (refl, refl)))

@@ -49,7 +49,8 @@ well-closed card =
     record {
       count = length-replicate (card .pairs) noSide;
       good = λ p h. rw (getD-replicate (card .pairs) p noSide noSide h) (good-closed card);
-      shares = omega (arith, claimed-closed (card .pairs)) }
+      shares = omega (arith, claimed-closed (card .pairs));
+    }
 
 module _ (card : Card) where
   shut : Pair
@@ -115,9 +116,10 @@ module _ (card : Card) where
         pairs-run = λ p h. rw (fresh-pair p h) (nothing-spelled (fresh card .slots));
         free-runs = rw fresh-free free-runs;
         once = λ i h.
-          rw (fresh-free, none-held, append-nil (from 0 (card .slots)))
-          (each-once (card .slots) (from 0 (card .slots)) (distinct-from 0 (card .slots)) (below-from (card .slots) 0 (card .slots) (omega arith)) (length-from 0 (card .slots)) i h);
-        idle-empty = λ p h n. rw (fresh-pair p h) shut-empty }
+            rw (fresh-free, none-held, append-nil (from 0 (card .slots)))
+            (each-once (card .slots) (from 0 (card .slots)) (distinct-from 0 (card .slots)) (below-from (card .slots) 0 (card .slots) (omega arith)) (length-from 0 (card .slots)) i h);
+        idle-empty = λ p h n. rw (fresh-pair p h) shut-empty;
+      }
 
   pub fresh-audit : Audit card (fresh card)
   fresh-audit = audit-of card (fresh card) fresh-whole (rw fresh-sides (well-closed card))

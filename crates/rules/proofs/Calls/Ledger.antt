@@ -52,21 +52,22 @@ module _ (card : Card) where
     entry-balanced (on r q) a l b =
         by-test (eqb r p)
         (λ here.
-          rw (eqb-true r p here, eq-eqb p p refl)
-          (by-test (eqb (firstGiven (refusals card q p a)) 0)
-            (λ e.
-              let low : p < length a = omega (arith, b .count, accepted card q p a e .pair) in
-              rw e (record {
-                count = length-set a p _ ∙ b .count;
-                held = rw (side-same a p (sideAfter (effect q (sideAt a p)) (sideAt a p)) low)
-                  (moved-balanced (effect q (sideAt a p) .move) (l .accepted) (l .released) (sideAt a p .packets) (b .held));
-                told = entered-balanced q (sideAt a p) l (b .told) }))
-            (λ e. rw e b)))
+        rw (eqb-true r p here, eq-eqb p p refl)
+        (by-test (eqb (firstGiven (refusals card q p a)) 0)
+        (λ e.
+        let low : p < length a = omega (arith, b .count, accepted card q p a e .pair) in
+        rw e (record {
+          count = length-set a p _ ∙ b .count;
+          held = rw (side-same a p (sideAfter (effect q (sideAt a p)) (sideAt a p)) low)
+              (moved-balanced (effect q (sideAt a p) .move) (l .accepted) (l .released) (sideAt a p .packets) (b .held));
+          told = entered-balanced q (sideAt a p) l (b .told);
+        }))
+        (λ e. rw e b)))
         (λ there.
-          rw there
-          (if-case (λ (n : Step (List Side)). Balanced l (n .next)) (eqb (firstGiven (refusals card q r a)) 0)
-            (λ e. record { count = length-set a r _ ∙ b .count; held = rw (side-other a r p _ (λ z. eqb-false r p there (sym z))) (b .held); told = b .told })
-            (λ e. b)))
+        rw there
+        (if-case (λ (n : Step (List Side)). Balanced l (n .next)) (eqb (firstGiven (refusals card q r a)) 0)
+        (λ e. record { count = length-set a r _ ∙ b .count; held = rw (side-other a r p _ (λ z. eqb-false r p there (sym z))) (b .held); told = b .told })
+        (λ e. b)))
 
     pub blank-balanced : Balanced blank (allClosed card)
     blank-balanced = record { count = length-replicate (card .pairs) noSide; held = sym (ap (λ (s : Side). s .packets) (closed-at (card .pairs) p)); told = refl }

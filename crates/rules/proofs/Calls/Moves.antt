@@ -49,12 +49,12 @@ sides-of t n p s e h here there =
     ext-getD noSide (sides n) (set (sides t) p s)
     (length-map (n .pairs) (sideOf (n .slots)) ∙ e ∙ sym (length-set (sides t) p s ∙ length-map (t .pairs) (sideOf (t .slots))))
     (λ r l.
-      side-at n r
-      ∙ by-test (eqb r p)
-        (λ q. rw (eqb-true r p q) (here ∙ sym (getD-set-same (sides t) p s noSide (omega (arith, length-map (t .pairs) (sideOf (t .slots)))))))
-        (λ q.
-          there r (omega (arith, length-map (n .pairs) (sideOf (n .slots)))) (eqb-false r p q)
-          ∙ sym (getD-set-other (sides t) p r s noSide (eqb-false r p q) ∙ side-at t r)))
+    side-at n r
+    ∙ by-test (eqb r p)
+    (λ q. rw (eqb-true r p q) (here ∙ sym (getD-set-same (sides t) p s noSide (omega (arith, length-map (t .pairs) (sideOf (t .slots)))))))
+    (λ q.
+    there r (omega (arith, length-map (n .pairs) (sideOf (n .slots)))) (eqb-false r p q)
+    ∙ sym (getD-set-other (sides t) p r s noSide (eqb-false r p q) ∙ side-at t r)))
 
 -- what the pairs claim to hold is what they hold
 holding-is : (s : List Slot) (ps : List Pair)
@@ -89,8 +89,10 @@ module _ (card : Card) (t : Tables) where
           bounded = a .bounded p h;
           ordered = λ e. in-order (a .bounded p h (omega arith)) (a .ordered p h e);
           messages = a .messages p h;
-          timed = a .timed p h });
-        shares = a .shares }
+          timed = a .timed p h;
+        });
+        shares = a .shares;
+      }
 
   pub audit-of : Whole card t → Well card (sides t) → Audit card t
   audit-of w l =
@@ -101,7 +103,8 @@ module _ (card : Card) (t : Tables) where
         ordered = λ p h e. ordered (good p h .ordered e);
         messages = λ p h. good p h .messages;
         timed = λ p h. good p h .timed;
-        shares = l .shares }
+        shares = l .shares;
+      }
     where
       good : (p : ℕ) → p < card .pairs → Good card (side t p)
       good p h = rw (← side-at t p) (l .good p h)
@@ -119,22 +122,24 @@ module _ (card : Card) (t : Tables) where
         let v = freed-whole card t w p hp st k (λ n. omega (arith, rw (side-at t p) at (g .idle n), length-drop k (side t p .packets), side-length t p)) in
         record {
           same =
-            rw (side-at t p)
-            (sides-of t (freed (card .none) p st k t) p _ (v .pair-records ∙ sym (w .pair-records)) (omega (arith, w .pair-records))
+              rw (side-at t p)
+              (sides-of t (freed (card .none) p st k t) p _ (v .pair-records ∙ sym (w .pair-records)) (omega (arith, w .pair-records))
               (freed-side card t w p hp st k)
               (λ r h. freed-others card t w p hp st k r (omega (arith, w .pair-records))));
-          whole = v }
+          whole = v;
+        }
 
     moved-join : (st : Standing) (qs : List Packet) → st .state ≡ 1 → length qs ≤ length (free t) → Moved st (join qs)
     moved-join st qs e room =
         let v = stored-whole card t w p hp st qs room e in
         record {
           same =
-            rw (side-at t p)
-            (sides-of t (stored (card .none) p st qs t) p _ (v .pair-records ∙ sym (w .pair-records)) (omega (arith, w .pair-records))
+              rw (side-at t p)
+              (sides-of t (stored (card .none) p st qs t) p _ (v .pair-records ∙ sym (w .pair-records)) (omega (arith, w .pair-records))
               (stored-side card t w p hp st qs room)
               (λ r h. stored-others card t w p hp st qs room r (omega (arith, w .pair-records))));
-          whole = v }
+          whole = v;
+        }
 
     -- what keeps the sum within the total finds free slots
     room-for : (c : Claim) (new : ℕ) → 0 < sideAt (sides t) p .standing .state → c .held ≡ length (sideAt (sides t) p .packets) + new
@@ -160,7 +165,7 @@ module _ (card : Card) (t : Tables) where
         let st = s .standing .settings in
         let ready : s .standing .state ≡ 1 = is-ready (h .state) in
         let room = room-for (a .whole) p hp (record { share = st .share; held = length (s .packets) + slotsFor st m }) (slotsFor st m) (omega arith) refl
-          (has-room (card .slots) (st .ceiling) (claims (sides t)) p (record { share = st .share; held = length (s .packets) + slotsFor st m }) (h .room) .1) in
+        (has-room (card .slots) (st .ceiling) (claims (sides t)) p (record { share = st .share; held = length (s .packets) + slotsFor st m }) (h .room) .1) in
         moved-join (a .whole) p hp _ _ (posted-state m s ∙ ready) (omega (arith, length-packets st m (N s)))
     moved (emitting budget b) h = moved-leave (a .whole) p hp _ 0 (kept (emitting budget b) h)
     moved (acknowledging r y b) h = moved-leave (a .whole) p hp _ _ (kept (acknowledging r y b) h)

@@ -77,5 +77,5 @@ module _ (card : Card) where
   numbers t a p q n =
       rw (complete card t a)
       (by-test (eqb (firstGiven (refusals card q p (sides t))) 0)
-        (λ e. rw e (λ r. absurd (no-refusal card t n q (sideAt (sides t) p) r)))
-        (λ e. rw e (λ r. omega (arith, given-low (refusals card q p (sides t)) (low-numbers card p (sides t) q), refused-inj r))))
+      (λ e. rw e (λ r. absurd (no-refusal card t n q (sideAt (sides t) p) r)))
+      (λ e. rw e (λ r. omega (arith, given-low (refusals card q p (sides t)) (low-numbers card p (sides t) q), refused-inj r))))

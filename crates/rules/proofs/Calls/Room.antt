@@ -39,7 +39,7 @@ module _ (card : Card) where
         let st = side t p .standing .settings in
         let w = well-of card t a in
         let mine : getD (claims (sides t)) p (claimOf noSide) .share ≡ st .share =
-            ap (λ (c : Claim). c .share) (claim-at (sides t) p ∙ ap claimOf (side-at t p) ∙ claim-open (side t p) (omega arith)) in
+        ap (λ (c : Claim). c .share) (claim-at (sides t) p ∙ ap claimOf (side-at t p) ∙ claim-open (side t p) (omega arith)) in
         rw (side-at t p)
         (within-share (card .slots) (st .ceiling) (claims (sides t)) p
         (record { share = st .share; held = length (side t p .packets) + slotsFor st m }) (claimOf noSide)
@@ -65,5 +65,5 @@ module _ (card : Card) where
     room l n =
         rw (complete card t a)
         (by-test (eqb (firstGiven (refusals card (posting m) p (sides t))) 0)
-          (λ e. rw e (λ q. let z : _≡_ {A = ℕ} 0 1 = cc in absurd (omega arith)))
-          (λ e. rw e (λ q. omega (arith, number l, refused-inj q))))
+        (λ e. rw e (λ q. let z : _≡_ {A = ℕ} 0 1 = cc in absurd (omega arith)))
+        (λ e. rw e (λ q. omega (arith, number l, refused-inj q))))

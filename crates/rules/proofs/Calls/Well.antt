@@ -67,7 +67,7 @@ unfolding posted
 claim-posted m s e =
     claim-open (posted m s) (omega arith)
     ∙ ap (λ (n : ℕ). record { share = s .standing .settings .share; held = n })
-      (length-append (s .packets) _ ∙ ap (λ (n : ℕ). length (s .packets) + n) (length-packets (s .standing .settings) m (N s)))
+    (length-append (s .packets) _ ∙ ap (λ (n : ℕ). length (s .packets) + n) (length-packets (s .standing .settings) m (N s)))
 
 module _ (card : Card) where
   pub record Well (a : List Side) : Type 0 where
@@ -81,10 +81,11 @@ module _ (card : Card) where
         record {
           count = length-set a p s ∙ w .count;
           good = λ r h.
-            by-test (eqb r p)
-            (λ e. rw (eqb-true r p e, side-same a p s (omega (arith, w .count))) g)
-            (λ e. rw (side-other a p r s (eqb-false r p e)) (w .good r h));
-          shares = rw (claims-set a p s) l }
+              by-test (eqb r p)
+              (λ e. rw (eqb-true r p e, side-same a p s (omega (arith, w .count))) g)
+              (λ e. rw (side-other a p r s (eqb-false r p e)) (w .good r h));
+          shares = rw (claims-set a p s) l;
+        }
 
     well-less : (s : Side) → Follows card (sideAt a p) s → Well (set a p s)
     well-less s f =

@@ -61,7 +61,7 @@ clean r y s =
     if-case P (not (inside r s)) (λ _ d. never (cc)) (λ e.
     if-case P (eqb (y / 32) 0)
     (λ _. if-case P (release (plus r 1) s .stopped) (λ _ d. never (cc))
-      (λ q d. record { within = not-false (inside r s) e; clear = q; released = refl; flushed = refl })) (λ _.
+    (λ q d. record { within = not-false (inside r s) e; clear = q; released = refl; flushed = refl })) (λ _.
     if-case P (eqb (y / 32) 1)
     (λ _. if-case P (ltb (s .standing .settings .rnr) 7 && eqb (release r s .standing .clock .rnrs) 0) (λ _ d. never (cc)) (λ _ d. never (cc))) (λ _.
     if-case P (leb (y % 32) 2) (λ _ d. never (cc)) (λ _ d. never (cc)))))
@@ -91,9 +91,9 @@ left-after s o r low h e = go (whole-or-part (s .standing .settings) (U s) (N s)
     go (left run) =
         rw (c .released)
         (runs-after (span (s .standing .settings)) (U s) r (distance (U s) (plus r 1))
-          (drop (ahead (λ p. not (before (U s) (p .psn) (plus r 1))) (s .packets)) (s .packets)) (N s)
-          (all-before (s .standing) (o .u-low) (plus r 1) 0 (s .packets) (N s) run (omega arith) (omega (arith, next, lt, o .u-h-n)) (o .near) (c .none))
-          (omega (arith, next)))
+        (drop (ahead (λ p. not (before (U s) (p .psn) (plus r 1))) (s .packets)) (s .packets)) (N s)
+        (all-before (s .standing) (o .u-low) (plus r 1) 0 (s .packets) (N s) run (omega arith) (omega (arith, next, lt, o .u-h-n)) (o .near) (c .none))
+        (omega (arith, next)))
     go (right q) = absurd (not-suc-le-zero (rw (q .is) at (rw first at (c .none))))
       where
         at-u : unanswered (s .standing) (q .head) ≡ U s
@@ -127,7 +127,6 @@ record Taken (card : Card) (t n : Tables) (p r : ℕ) : Type 0 where
 
 module _ (card : Card)
     (t : Tables) (p r y : ℕ) (b : List ℕ) (messages place : ℕ) where
-
   gone : Clean r (side t p) (acknowledge r y (side t p))
       → acknowledge r y (sideAt (sides t) p) .released + acknowledge r y (sideAt (sides t) p) .flushed ≡ release (plus r 1) (side t p) .released
   gone c = rw (side-at t p) (omega (arith, c .released, c .flushed))
@@ -138,18 +137,19 @@ module _ (card : Card)
   was-taken =
       by-test (passes card t)
       (λ e. rw e (by-test (eqb (firstGiven (refusals card (acknowledging r y b) p (sides t))) 0)
-        (λ q. rw q (λ d.
-          let h = accepted card (acknowledging r y b) p (sides t) q in
-          let c = rw (side-at t p) at (clean r y (sideAt (sides t) p) (cc)) in
-          record {
-            audit = sound card t e;
-            low = h .pair;
-            ready = rw (side-at t p) at (is-ready {x = sideAt (sides t) p .standing .state} (h .state));
-            psn = leb-false psns r (or-left (badPsn r) _ (h .range));
-            within = c .within;
-            clear = c .clear;
-            next = (acknowledge r y (sideAt (sides t) p) .standing, ap (λ (k : ℕ). freed (card .none) p (acknowledge r y (sideAt (sides t) p) .standing) k t) (gone c)) }))
-        (λ q. rw q (λ d. let z : _≡_ {A = ℕ} 0 1 = cc in absurd (omega arith)))))
+      (λ q. rw q (λ d.
+      let h = accepted card (acknowledging r y b) p (sides t) q in
+      let c = rw (side-at t p) at (clean r y (sideAt (sides t) p) (cc)) in
+      record {
+        audit = sound card t e;
+        low = h .pair;
+        ready = rw (side-at t p) at (is-ready {x = sideAt (sides t) p .standing .state} (h .state));
+        psn = leb-false psns r (or-left (badPsn r) _ (h .range));
+        within = c .within;
+        clear = c .clear;
+        next = (acknowledge r y (sideAt (sides t) p) .standing, ap (λ (k : ℕ). freed (card .none) p (acknowledge r y (sideAt (sides t) p) .standing) k t) (gone c));
+      }))
+      (λ q. rw q (λ d. let z : _≡_ {A = ℕ} 0 1 = cc in absurd (omega arith)))))
       (λ e. rw e (λ d. let z : _≡_ {A = ℕ} 0 1 = cc in absurd (omega arith)))
 
   module _ (done : call card (on p (acknowledging r y b)) t .said .reply ≡ Answered Done messages place) where
@@ -165,14 +165,16 @@ module _ (card : Card)
         let w = was-taken done in
         let k = release (plus r 1) (side t p) .released in
         let stay : times i (drop k (queue t p)) ≡ 0 =
-          by-test (ltb 0 (times i (drop k (queue t p))))
-          (λ e.
-            absurd (omega (arith,
-              each-in (After (U (side t p)) r) (λ j. slotAt (t .slots) j .packet) i (drop k (queue t p))
-                (subst (Each (After (U (side t p)) r)) (side-drop t p k)
-                  (left-after (side t p) (audited-order (w .audit) p (w .low) (w .ready)) r (w .psn) (w .within) (w .clear)))
-                (ltb-true 0 (times i (drop k (queue t p))) e))))
-          (λ e. omega (arith, ltb-false)) in
+        by-test (ltb 0 (times i (drop k (queue t p))))
+        (λ e.
+        absurd (omega (
+          arith,
+          each-in (After (U (side t p)) r) (λ j. slotAt (t .slots) j .packet) i (drop k (queue t p))
+              (subst (Each (After (U (side t p)) r)) (side-drop t p k)
+              (left-after (side t p) (audited-order (w .audit) p (w .low) (w .ready)) r (w .psn) (w .within) (w .clear)))
+              (ltb-true 0 (times i (drop k (queue t p))) e),
+        )))
+        (λ e. omega (arith, ltb-false)) in
         ap (λ (n : Tables). times i (free n)) (w .next .1)
         ∙ ap (times i) (freed-free card t (w .audit .whole) p (w .low) (w .next .0) k)
         ∙ omega (arith, times-append i (free t) (take k (queue t p)), times-parts i k (queue t p), pair-and-free card t (w .audit .whole) p i)

@@ -83,33 +83,33 @@ keeps-read : (card : Card) (t : Tables) → Audit card t → (p : ℕ) → p < c
 keeps-read card t a p low ready r y i m read n =
     let k = acknowledge r y (side t p) .released + acknowledge r y (side t p) .flushed in
     let gone : times i (take k (queue t p)) ≡ 0 =
-      by-test (ltb 0 (times i (take k (queue t p))))
-      (λ e.
-        absurd (true≢false (sym read
-          ∙ each-in (λ q. isRead q ≡ false) (λ j. slotAt (t .slots) j .packet) i (take k (queue t p))
-            (subst NoRead (side-take t p k) (gentle r y (side t p) (audited-order a p low ready) n))
-            (ltb-true 0 (times i (take k (queue t p))) e))))
-      (λ e. omega (arith, ltb-false)) in
+    by-test (ltb 0 (times i (take k (queue t p))))
+    (λ e.
+    absurd (true≢false (sym read
+    ∙ each-in (λ q. isRead q ≡ false) (λ j. slotAt (t .slots) j .packet) i (take k (queue t p))
+    (subst NoRead (side-take t p k) (gentle r y (side t p) (audited-order a p low ready) n))
+    (ltb-true 0 (times i (take k (queue t p))) e))))
+    (λ e. omega (arith, ltb-false)) in
     omega (arith, times-parts i k (queue t p), pair-and-free card t (a .whole) p i)
 
 module _ (card : Card)
     (t : Tables) (p r y : ℕ) (b : List ℕ) (answer : Answer) (messages place : ℕ) where
   -- a slot that holds a read stays in its pair's queue
-  pub read-stays : call card (on p (acknowledging r y b)) t .said .reply ≡ Answered answer messages place → answer ≢ Ended
+  pub reads-stay : call card (on p (acknowledging r y b)) t .said .reply ≡ Answered answer messages place → answer ≢ Ended
       → ReadsStay p t (call card (on p (acknowledging r y b)) t .next)
   unfolding call
-  read-stays =
+  reads-stay =
       by-test (passes card t)
       (λ e. rw e (by-test (eqb (firstGiven (refusals card (acknowledging r y b) p (sides t))) 0)
-        (λ q. rw q (λ d n i m read.
-          let h = accepted card (acknowledging r y b) p (sides t) q in
-          let low = h .pair in
-          let a = sound card t e in
-          let ready = rw (side-at t p) at (is-ready {x = sideAt (sides t) p .standing .state} (h .state)) in
-          let o = acknowledge r y (sideAt (sides t) p) in
-          let k = o .released + o .flushed in
-          ap (times i) (freed-queue card t (a .whole) p low (o .standing) k)
-          ∙ subst (λ (s : Side). acknowledge r y s .answer ≢ Ended → times i (drop (acknowledge r y s .released + acknowledge r y s .flushed) (queue t p)) ≡ 1)
-              (sym (side-at t p)) (keeps-read card t a p low ready r y i m read) (λ z. n (cc))))
-        (λ q. rw q (λ d. let z : _≡_ {A = ℕ} 0 1 = cc in absurd (omega arith)))))
+      (λ q. rw q (λ d n i m read.
+      let h = accepted card (acknowledging r y b) p (sides t) q in
+      let low = h .pair in
+      let a = sound card t e in
+      let ready = rw (side-at t p) at (is-ready {x = sideAt (sides t) p .standing .state} (h .state)) in
+      let o = acknowledge r y (sideAt (sides t) p) in
+      let k = o .released + o .flushed in
+      ap (times i) (freed-queue card t (a .whole) p low (o .standing) k)
+      ∙ subst (λ (s : Side). acknowledge r y s .answer ≢ Ended → times i (drop (acknowledge r y s .released + acknowledge r y s .flushed) (queue t p)) ≡ 1)
+      (sym (side-at t p)) (keeps-read card t a p low ready r y i m read) (λ z. n (cc))))
+      (λ q. rw q (λ d. let z : _≡_ {A = ℕ} 0 1 = cc in absurd (omega arith)))))
       (λ e. rw e (λ d. let z : _≡_ {A = ℕ} 0 1 = cc in absurd (omega arith)))

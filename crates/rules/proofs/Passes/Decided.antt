@@ -126,9 +126,9 @@ module _ (card : Card) (t : Tables) where
   runs-of h =
       each-more (Runs (card .none) (t .slots)) ofPairs ofFree
       (each-of (entryOf card (t .slots)) (Runs (card .none) (t .slots)) (t .pairs)
-        (λ p l.
-          pair-passes card (t .slots) (pairAt (t .pairs) p) .0
-          (each-at (entryOf card (t .slots)) Passed (t .pairs) (each-front Passed ofPairs ofFree h) p l) .spells))
+      (λ p l.
+      pair-passes card (t .slots) (pairAt (t .pairs) p) .0
+      (each-at (entryOf card (t .slots)) Passed (t .pairs) (each-front Passed ofPairs ofFree h) p l) .spells))
       (spells-passes (card .none) (t .slots) (idle t) .0 (each-back Passed ofPairs ofFree h))
 
   pub sound : passes card t ≡ true → Audit card t
@@ -136,19 +136,21 @@ module _ (card : Card) (t : Tables) where
   sound e =
       record {
         whole =
-          record {
-            pair-records = np;
-            slot-records = ns;
-            pairs-run = λ p l. right p l .spells;
-            free-runs = spells-passes (card .none) (t .slots) (idle t) .0 (each-back Passed ofPairs ofFree (c .passed));
-            once = once;
-            idle-empty = λ p l n. sym (held-of p) ∙ right p l .good .idle n };
+            record {
+              pair-records = np;
+              slot-records = ns;
+              pairs-run = λ p l. right p l .spells;
+              free-runs = spells-passes (card .none) (t .slots) (idle t) .0 (each-back Passed ofPairs ofFree (c .passed));
+              once = once;
+              idle-empty = λ p l n. sym (held-of p) ∙ right p l .good .idle n;
+            };
         states = λ p l. right p l .good .state;
         bounded = λ p l. right p l .good .bounded;
         ordered = λ p l e. ordered (right p l .good .ordered e);
         messages = λ p l. right p l .good .messages;
         timed = λ p l. right p l .good .timed;
-        shares = omega (arith, c .shares (omega arith), asked-all) }
+        shares = omega (arith, c .shares (omega arith), asked-all);
+      }
     where
       np : length (t .pairs) ≡ card .pairs
       np = eqb-true (length (t .pairs)) (card .pairs) (both e .0)
@@ -175,8 +177,13 @@ module _ (card : Card) (t : Tables) where
 
       sum : total entries ≡ card .slots
       sum =
-          omega (arith,
-            total-more ofPairs ofFree, total-is card (t .slots) (t .pairs), count-pairs first .room (omega arith), ns)
+          omega (
+            arith,
+            total-more ofPairs ofFree,
+            total-is card (t .slots) (t .pairs),
+            count-pairs first .room (omega arith),
+            ns,
+          )
 
       once : (i : ℕ) → i < card .slots → times i (free t ++ join (queues t)) ≡ 1
       once i l =
@@ -207,15 +214,16 @@ module _ (card : Card) (t : Tables) where
             bounded = a .bounded p l;
             ordered = audited-order a p l;
             messages = a .messages p l;
-            timed = a .timed p l }
+            timed = a .timed p l;
+          }
 
       passed : Each Passed entries
       passed =
           each-more Passed ofPairs ofFree
           (each-of (entryOf card (t .slots)) Passed (t .pairs)
-            (λ p l.
-              let k : p < card .pairs = omega (arith, np, l) in
-              pair-passes card (t .slots) (pairAt (t .pairs) p) .1 (record { spells = a .whole .pairs-run p k; good = good p k })))
+          (λ p l.
+          let k : p < card .pairs = omega (arith, np, l) in
+          pair-passes card (t .slots) (pairAt (t .pairs) p) .1 (record { spells = a .whole .pairs-run p k; good = good p k })))
           (spells-passes (card .none) (t .slots) (idle t) .1 (a .whole .free-runs))
 
       runs : Each (Runs (card .none) (t .slots)) entries

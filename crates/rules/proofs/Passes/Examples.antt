@@ -149,7 +149,7 @@ table-answers =
     ∷ passes (card 2 8) (record { pairs = tables (write settings) read .pairs; ends = record { first = 2; last = 5 }; slots = relinked 5 8 slots })
     -- pair 1's queue is the free queue's last slot
     ∷ passes (card 2 8)
-      (record { pairs = pair (write settings) (3 ∷ 1 ∷ 6 ∷ []) ∷ pair read (7 ∷ []) ∷ []; ends = record { first = 2; last = 7 }; slots = holding 7 (slotAt slots 0 .packet) slots })
+    (record { pairs = pair (write settings) (3 ∷ 1 ∷ 6 ∷ []) ∷ pair read (7 ∷ []) ∷ []; ends = record { first = 2; last = 7 }; slots = holding 7 (slotAt slots 0 .packet) slots })
     ∷ []
 
 pub tables-as-said :

@@ -72,16 +72,18 @@ module _ (card : Card) (s : List Slot) (p : Pair) where
       record {
         spells = h .spells;
         good =
-          record {
-            state = r .state;
-            idle = r .idle;
-            bounded = r .bounded low;
-            ordered = h .ordered;
-            messages =
-              by-test (eqb (p .standing .state) 1)
-              (λ q. h .messages (eqb-true (p .standing .state) 1 q))
-              (λ q. nothing-held (p .standing) (packetsIn s (p .queue)) (r .idle (eqb-false (p .standing .state) 1 q)));
-            timed = r .timed } }
+            record {
+              state = r .state;
+              idle = r .idle;
+              bounded = r .bounded low;
+              ordered = h .ordered;
+              messages =
+                  by-test (eqb (p .standing .state) 1)
+                  (λ q. h .messages (eqb-true (p .standing .state) 1 q))
+                  (λ q. nothing-held (p .standing) (packetsIn s (p .queue)) (r .idle (eqb-false (p .standing .state) 1 q)));
+              timed = r .timed;
+            };
+      }
 
   back : Right card s p → pairPasses card s p ≡ true
   unfolding pairPasses sideOf

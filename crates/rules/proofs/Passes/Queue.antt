@@ -78,7 +78,8 @@ module _ (none : ℕ) (s : List Slot) (t : Standing) (q : Queue) where
       record {
         spells = spells-passes none s q .0 (sym trail-is ∙ both e .0);
         ordered = λ r. let a = both (rw (eq-eqb (t .state) 1 r) at (both e .1)) in ordered-passes t (packetsIn s q) .0 (joined (a .0) (sym course-is ∙ both (a .1) .0));
-        messages = λ r. let a = both (rw (eq-eqb (t .state) 1 r) at (both e .1)) in held-of (t .settings) (packetsIn s q) (sym stage-is ∙ both (a .1) .1) }
+        messages = λ r. let a = both (rw (eq-eqb (t .state) 1 r) at (both e .1)) in held-of (t .settings) (packetsIn s q) (sym stage-is ∙ both (a .1) .1);
+      }
 
   back : Holds none s t q → queuePasses none s t q ≡ true
   unfolding queuePasses w

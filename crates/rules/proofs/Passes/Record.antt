@@ -57,20 +57,36 @@ module _ (card : Card) (t : Standing) (ps : List Packet) where
         packets-low = low;
         retries = leb-true (t .clock .retries) (t .settings .retry) (h .1 .1 .1 .1 .1 .0);
         rnrs = leb-true (t .clock .rnrs) (t .settings .rnr) (h .1 .1 .1 .1 .1 .1 .0);
-        held = leb-true (length ps) (t .settings .ceiling) (h .1 .1 .1 .1 .1 .1 .1 .0) }
+        held = leb-true (length ps) (t .settings .ceiling) (h .1 .1 .1 .1 .1 .1 .1 .0);
+      }
 
   fair-is : Bounded card here → allOf (boundTests card t (length ps)) ≡ true
   fair-is f =
-      hold-all (boundTests card t (length ps))
-      ( rw (f .settings)
-      , (lt-ltb (t .line .u) psns (f .u-low)
-      , (lt-ltb (t .line .x) psns (f .x-low)
-      , (lt-ltb (t .line .h) psns (f .h-low)
-      , (lt-ltb (t .line .n) psns (f .n-low)
-      , (le-leb (t .clock .retries) (t .settings .retry) (f .retries)
-      , (le-leb (t .clock .rnrs) (t .settings .rnr) (f .rnrs)
-      , (le-leb (length ps) (t .settings .ceiling) (f .held)
-      , tt))))))))
+      hold-all (boundTests card t (length ps)) (
+        rw (f .settings),
+        (
+          lt-ltb (t .line .u) psns (f .u-low),
+          (
+            lt-ltb (t .line .x) psns (f .x-low),
+            (
+              lt-ltb (t .line .h) psns (f .h-low),
+              (
+                lt-ltb (t .line .n) psns (f .n-low),
+                (
+                  le-leb (t .clock .retries) (t .settings .retry) (f .retries),
+                  (
+                    le-leb (t .clock .rnrs) (t .settings .rnr) (f .rnrs),
+                    (
+                      le-leb (length ps) (t .settings .ceiling) (f .held),
+                      tt,
+                    ),
+                  ),
+                ),
+              ),
+            ),
+          ),
+        ),
+      )
 
   timed-of : allOf (timedTests t) ≡ true → Timed here
   timed-of e =
@@ -81,18 +97,28 @@ module _ (card : Card) (t : Standing) (ps : List Packet) where
         elapsed = ltb-true (t .clock .elapsed) (timeoutOf (t .settings)) (h .1 .0);
         still = λ q. eqb-true (t .clock .elapsed) 0 (unless (eqb (t .line .u) (t .line .h)) still (h .1 .1 .0) (eq-eqb (t .line .u) (t .line .h) q));
         on-hold = λ q. eqb-true (t .clock .elapsed) 0 (otherwise (eqb (t .clock .hold) 0) still (h .1 .1 .1 .0) (ne-eqb (t .clock .hold) 0 (λ z. omega (arith, q, z))));
-        untimed = λ q. eqb-true (t .clock .elapsed) 0 (unless (eqb (t .settings .timeout) 0) still (h .1 .1 .1 .1 .0) (eq-eqb (t .settings .timeout) 0 q)) }
+        untimed = λ q. eqb-true (t .clock .elapsed) 0 (unless (eqb (t .settings .timeout) 0) still (h .1 .1 .1 .1 .0) (eq-eqb (t .settings .timeout) 0 q));
+      }
 
   timed-is : Timed here → allOf (timedTests t) ≡ true
   timed-is r =
       let still = eqb (t .clock .elapsed) 0 in
-      hold-all (timedTests t)
-      ( le-leb (t .clock .hold) longestHold (r .hold)
-      , (lt-ltb (t .clock .elapsed) (timeoutOf (t .settings)) (r .elapsed)
-      , (unless-is (eqb (t .line .u) (t .line .h)) still (λ q. eq-eqb (t .clock .elapsed) 0 (r .still (eqb-true (t .line .u) (t .line .h) q)))
-      , (otherwise-is (eqb (t .clock .hold) 0) still (λ q. eq-eqb (t .clock .elapsed) 0 (r .on-hold (omega (arith, eqb-false (t .clock .hold) 0 q))))
-      , (unless-is (eqb (t .settings .timeout) 0) still (λ q. eq-eqb (t .clock .elapsed) 0 (r .untimed (eqb-true (t .settings .timeout) 0 q)))
-      , tt)))))
+      hold-all (timedTests t) (
+        le-leb (t .clock .hold) longestHold (r .hold),
+        (
+          lt-ltb (t .clock .elapsed) (timeoutOf (t .settings)) (r .elapsed),
+          (
+            unless-is (eqb (t .line .u) (t .line .h)) still (λ q. eq-eqb (t .clock .elapsed) 0 (r .still (eqb-true (t .line .u) (t .line .h) q))),
+            (
+              otherwise-is (eqb (t .clock .hold) 0) still (λ q. eq-eqb (t .clock .elapsed) 0 (r .on-hold (omega (arith, eqb-false (t .clock .hold) 0 q)))),
+              (
+                unless-is (eqb (t .settings .timeout) 0) still (λ q. eq-eqb (t .clock .elapsed) 0 (r .untimed (eqb-true (t .settings .timeout) 0 q))),
+                tt,
+              ),
+            ),
+          ),
+        ),
+      )
 
   -- what the record alone says of the side
   pub record Sits : Type 0 where
@@ -110,7 +136,8 @@ module _ (card : Card) (t : Standing) (ps : List Packet) where
         state = leb-true (t .state) 2 (a .0);
         idle = λ q. eqb-true (length ps) 0 (rw (ne-eqb (t .state) 1 q) at (b .1));
         bounded = λ low q. fair-of (rw (ne-eqb (t .state) 0 (λ z. omega (arith, q, z))) at (b .0)) low;
-        timed = λ q. timed-of (rw (eq-eqb (t .state) 1 q) at (b .1)) }
+        timed = λ q. timed-of (rw (eq-eqb (t .state) 1 q) at (b .1));
+      }
 
   pub record-passes : t .state ≤ 2 → ((t .state ≡ 1 → ⊥) → length ps ≡ 0) → (0 < t .state → Bounded card here) → (t .state ≡ 1 → Timed here)
       → recordPasses card t (length ps) ≡ true

@@ -230,4 +230,3 @@ module _ (s : Settings) (m : Post) (kd : m .kind ≤ 1) (first : ℕ) where
       let e : inner s w (packetAt s m first i) ≡ Inside (more w) = rw (goes-on allowed i w st (omega arith)) in
       ap (λ (x : Stage). run s x (map (packetAt s m first) (from (suc i) (suc j)) ++ rest)) e
       ∙ inner-complete allowed rest j (suc i) (more w) (stands-more i w st) (omega arith)
-

@@ -79,7 +79,8 @@ keyed key m =
       length = m .length;
       address = m .address;
       key = key;
-      value = m .value }
+      value = m .value;
+    }
 
 made-keyed : (op key : ℕ) (m : Post) (psn offset length : ℕ) → hasReth op ≡ false → made op m psn offset length ≡ made op (keyed key m) psn offset length
 made-keyed op key m psn offset length r = rw r

@@ -37,7 +37,8 @@ ordered-resent t ps k l w o =
       near = o .near;
       x-stands = left refl;
       h-stands = o .h-stands;
-      h-past = o .h-past }
+      h-past = o .h-past;
+    }
 
 -- what an outcome is: the pair still ready and in order, or ended with nothing left. The settings stay
 pub record Fine (s : Side) (o : Outcome) : Type 0 where
@@ -64,7 +65,8 @@ module _ (s : Side) (ready : s .standing .state ≡ 1) (o : InOrder s) where
     again b l e answer n wait =
         record {
           settings = release-keeps b .1;
-          fate = left (release-keeps b .0, rw add-zero (ordered-resent _ _ _ _ _ (ordered-release s o b l e))) }
+          fate = left (release-keeps b .0, rw add-zero (ordered-resent _ _ _ _ _ (ordered-release s o b l e)));
+        }
 
     fine-ack : Fine s (ack r s)
     fine-ack =
@@ -72,7 +74,8 @@ module _ (s : Side) (ready : s .standing .state ≡ 1) (o : InOrder s) where
         (λ e. again (plus r 1) (omega arith) next-low Resending _ _)
         (λ e. record {
           settings = release-keeps (plus r 1) .1;
-          fate = left (release-keeps (plus r 1) .0, rw add-zero (ordered-release s o (plus r 1) (omega arith) next-low)) })
+          fate = left (release-keeps (plus r 1) .0, rw add-zero (ordered-release s o (plus r 1) (omega arith) next-low));
+        })
 
     fine-end : Fine s (final r s)
     fine-end = record { settings = release-keeps r .1; fate = right (refl, omega arith) }

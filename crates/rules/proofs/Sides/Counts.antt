@@ -164,7 +164,7 @@ pub rnr-restores : (r y : ℕ) (s : Side) → acknowledge r y s .answer ≡ Held
     → (acknowledge r y s .standing .clock .retries ≡ s .standing .settings .retry) × (release r s .standing .clock .rnrs ≡ s .standing .settings .rnr)
 rnr-restores r y s =
     by-acknowledge (λ o. o .answer ≡ Held → o .standing .line .u ≢ U s
-      → (o .standing .clock .retries ≡ s .standing .settings .retry) × (release r s .standing .clock .rnrs ≡ s .standing .settings .rnr)) s r y
+    → (o .standing .clock .retries ≡ s .standing .settings .retry) × (release r s .standing .clock .rnrs ≡ s .standing .settings .rnr)) s r y
     (λ d. unlike d (λ z. omega arith))
     (λ b d. unlike d (λ z. omega arith))
     (λ b d. unlike d (λ z. omega arith))

@@ -39,8 +39,8 @@ module _ (s : Settings) (u : ℕ) (u-low : u < psns) (n : ℕ) (n-low : n < psns
       record { low = low; past = omega arith; within = omega (arith, runs-end (span s) u u-low o [] n r); at = stands-at x low o [] e r }
   stop (suc k) x low o (p ∷ ps) e r =
       let c = stop k (ends s p) (omega arith) (o + span s p) ps
-        (omega (arith, r .1, distance-step u (p .psn) (span s p) (omega (arith, r .1, runs-end (span s) u u-low (o + span s p) ps n (r .2)))))
-        (r .2) in
+      (omega (arith, r .1, distance-step u (p .psn) (span s p) (omega (arith, r .1, runs-end (span s) u u-low (o + span s p) ps n (r .2)))))
+      (r .2) in
       record { low = c .low; past = omega (arith, c .past); within = c .within; at = later (c .at) }
     where
       later : {y : ℕ} → (y ≡ n) or Start y ps → (y ≡ n) or Start y (p ∷ ps)
@@ -50,8 +50,14 @@ module _ (s : Settings) (u : ℕ) (u-low : u < psns) (n : ℕ) (n-low : n < psns
   -- the record at U: it ends at the place where the next starts
   pub first-ends : (p : Packet) (ps : List Packet) → StartsLow (span s) u (p ∷ ps) n → distance u (ends s p) ≡ span s p - distance (p .psn) u
   first-ends p ps h =
-      omega (arith, h .1, runs-end (span s) u u-low (span s p - distance (p .psn) u) ps n (h .2),
-        distance-is (p .psn) u, distance-is u (ends s p), near)
+      omega (
+        arith,
+        h .1,
+        runs-end (span s) u u-low (span s p - distance (p .psn) u) ps n (h .2),
+        distance-is (p .psn) u,
+        distance-is u (ends s p),
+        near,
+      )
 
   -- behind a record, the run goes on from its end
   abbrev After : List Packet → Type 0
@@ -128,18 +134,38 @@ ordered-emitted s o budget = with-y _ (moved s o (going budget s))
   where
     with-y : (y : ℕ) → Moved s y
         → InOrder (record {
-            standing = record { state = s .standing .state; settings = s .standing .settings; line = record { u = U s; x = y; h = further (U s) (H s) y; n = N s }; clock = s .standing .clock };
-            packets = s .packets })
+          standing = record { state = s .standing .state; settings = s .standing .settings; line = record { u = U s; x = y; h = further (U s) (H s) y; n = N s }; clock = s .standing .clock };
+          packets = s .packets;
+        })
     with-y y c =
         if-case (λ (h : ℕ). InOrder (record {
-            standing = record { state = s .standing .state; settings = s .standing .settings; line = record { u = U s; x = y; h = h; n = N s }; clock = s .standing .clock };
-            packets = s .packets }))
+          standing = record { state = s .standing .state; settings = s .standing .settings; line = record { u = U s; x = y; h = h; n = N s }; clock = s .standing .clock };
+          packets = s .packets;
+        }))
         (before (U s) (H s) y)
         (λ e. record {
-          u-low = o .u-low; x-low = c .low; h-low = c .low; n-low = o .n-low; starts = o .starts;
-          u-x-h = omega arith; u-h-n = c .within; near = o .near; x-stands = c .at; h-stands = c .at;
-          h-past = past-up (span (s .standing .settings)) (U s) (H s) y (s .packets) (omega (arith, ltb-true (distance (U s) (H s)) (distance (U s) y) e)) (o .h-past) })
+          u-low = o .u-low;
+          x-low = c .low;
+          h-low = c .low;
+          n-low = o .n-low;
+          starts = o .starts;
+          u-x-h = omega arith;
+          u-h-n = c .within;
+          near = o .near;
+          x-stands = c .at;
+          h-stands = c .at;
+          h-past = past-up (span (s .standing .settings)) (U s) (H s) y (s .packets) (omega (arith, ltb-true (distance (U s) (H s)) (distance (U s) y) e)) (o .h-past);
+        })
         (λ e. record {
-          u-low = o .u-low; x-low = c .low; h-low = o .h-low; n-low = o .n-low; starts = o .starts;
-          u-x-h = ltb-false (distance (U s) (H s)) (distance (U s) y) e; u-h-n = o .u-h-n; near = o .near; x-stands = c .at; h-stands = o .h-stands;
-          h-past = o .h-past })
+          u-low = o .u-low;
+          x-low = c .low;
+          h-low = o .h-low;
+          n-low = o .n-low;
+          starts = o .starts;
+          u-x-h = ltb-false (distance (U s) (H s)) (distance (U s) y) e;
+          u-h-n = o .u-h-n;
+          near = o .near;
+          x-stands = c .at;
+          h-stands = o .h-stands;
+          h-past = o .h-past;
+        })

@@ -93,7 +93,8 @@ module _ (s : Settings) (m : Post) (first : ℕ) (ok : Allowed s m) where
         total = if-case (λ (x : ℕ). x < 2 ^ 31) (hasReth (opcodeAt m (packetsFor (pmtu s) (m .length)) i)) (λ _. ok′ .short) (λ _. omega arith);
         reach = λ e. absurd (true≢false (sym e ∙ no-read m (packetsFor (pmtu s) (m .length)) i k));
         far = λ e. absurd (true≢false (sym e ∙ no-read m (packetsFor (pmtu s) (m .length)) i k));
-        all = λ e. absurd (true≢false (sym e ∙ no-read m (packetsFor (pmtu s) (m .length)) i k)) }
+        all = λ e. absurd (true≢false (sym e ∙ no-read m (packetsFor (pmtu s) (m .length)) i k));
+      }
     where
       offset : (i * pmtu s < m .length) or ((i ≡ 0) × (m .length ≡ 0)) → m .offset + i * pmtu s < 2 ^ 32
       offset (left x) = omega (arith, ok′ .fits)
@@ -113,9 +114,17 @@ module _ (s : Settings) (m : Post) (first : ℕ) (ok : Allowed s m) where
   unfolding packetsOf
   packets-fit =
       if-case (Each Fits) (eqb (m .kind) 2)
-      (λ e. (record {
-        offset = ok′ .offset; length = ok′ .short; total = ok′ .short; reach = λ _. ok′ .fits; far = λ _. ok′ .reach (omega (arith, eqb-true (m .kind) 2 e)); all = λ _. refl }
-        , tt))
+      (λ e. (
+        record {
+          offset = ok′ .offset;
+          length = ok′ .short;
+          total = ok′ .short;
+          reach = λ _. ok′ .fits;
+          far = λ _. ok′ .reach (omega (arith, eqb-true (m .kind) 2 e));
+          all = λ _. refl;
+        },
+        tt,
+      ))
       (λ e. each-from Fits (packetAt s m first) 0 (packetsFor (pmtu s) (m .length)) (λ i h. packet-fits (omega (arith, ok′ .kind, eqb-false (m .kind) 2 e)) i (omega arith)))
 
 module _ (s : Settings) where

@@ -97,7 +97,7 @@ module _ (s : Settings) (m : Post) (a : ℕ) where
       if-case (Each Short) (eqb (m .kind) 2)
       (λ _. ((λ _. l), tt))
       (λ e. each-map Short (packetAt s m a) (from 0 (packetsFor (pmtu s) (m .length)))
-        (λ i q. absurd (true≢false (sym q ∙ no-read m (packetsFor (pmtu s) (m .length)) i (omega (arith, eqb-false (m .kind) 2 e))))))
+      (λ i q. absurd (true≢false (sym q ∙ no-read m (packetsFor (pmtu s) (m .length)) i (omega (arith, eqb-false (m .kind) 2 e))))))
 
 module _ (s : Settings) where
   messages-short : {ps : List Packet} → Messages s ps → Each Short ps
@@ -115,11 +115,11 @@ span-small : (s : Settings) → 1 ≤ s .pmtu → (p : Packet) → Short p → s
 span-small s one p short =
     if-case (λ (n : ℕ). n ≤ suc half) (isRead p)
     (λ e. if-case (λ (n : ℕ). n ≤ suc half) (eqb (p .length) 0) (λ _. omega arith)
-      (λ _.
-        let big : 256 ≤ pmtu s = pow-mono {i = 8} {j = 7 + s .pmtu} (omega arith) in
-        let l = short e in
-        let q : (p .length + (pmtu s - 1)) / pmtu s < 8388609 = div-lt-iff-lt-mul (pow-pos (7 + s .pmtu)) .1 (omega arith) in
-        omega arith))
+    (λ _.
+    let big : 256 ≤ pmtu s = pow-mono {i = 8} {j = 7 + s .pmtu} (omega arith) in
+    let l = short e in
+    let q : (p .length + (pmtu s - 1)) / pmtu s < 8388609 = div-lt-iff-lt-mul (pow-pos (7 + s .pmtu)) .1 (omega arith) in
+    omega arith))
     (λ _. omega arith)
 
 pub spans-small : (s : Settings) → 1 ≤ s .pmtu → {ps : List Packet} → Remaining s ps → Each (λ p. span s p ≤ suc half) ps
@@ -156,7 +156,13 @@ module _ (card : Card) where
   pub good-closed : Good card noSide
   good-closed =
       record {
-        state = omega arith; idle = λ _. refl; bounded = λ h. absurd (omega arith); ordered = λ e. absurd (omega arith); messages = none-left; timed = λ e. absurd (omega arith) }
+        state = omega arith;
+        idle = λ _. refl;
+        bounded = λ h. absurd (omega arith);
+        ordered = λ e. absurd (omega arith);
+        messages = none-left;
+        timed = λ e. absurd (omega arith);
+      }
 
   -- a pair just opened
   pub good-opened : (st : Settings) (a : ℕ) → badSettings card st ≡ false → a < psns → Good card (record { standing = opened st a; packets = [] })
@@ -165,12 +171,32 @@ module _ (card : Card) where
         state = omega arith;
         idle = λ _. refl;
         bounded = λ _. record {
-          settings = r; u-low = low; x-low = low; h-low = low; n-low = low; packets-low = tt; retries = omega arith; rnrs = omega arith; held = omega arith };
+          settings = r;
+          u-low = low;
+          x-low = low;
+          h-low = low;
+          n-low = low;
+          packets-low = tt;
+          retries = omega arith;
+          rnrs = omega arith;
+          held = omega arith;
+        };
         ordered = λ _. record {
-          u-low = low; x-low = low; h-low = low; n-low = low; starts = sym (distance-same a); u-x-h = omega arith; u-h-n = omega arith;
-          near = omega (arith, distance-same a); x-stands = left refl; h-stands = left refl; h-past = tt };
+          u-low = low;
+          x-low = low;
+          h-low = low;
+          n-low = low;
+          starts = sym (distance-same a);
+          u-x-h = omega arith;
+          u-h-n = omega arith;
+          near = omega (arith, distance-same a);
+          x-stands = left refl;
+          h-stands = left refl;
+          h-past = tt;
+        };
         messages = none-left;
-        timed = λ _. record { hold = omega arith; elapsed = omega (arith, pow-pos (st .timeout)); still = λ _. refl; on-hold = λ _. refl; untimed = λ _. refl } }
+        timed = λ _. record { hold = omega arith; elapsed = omega (arith, pow-pos (st .timeout)); still = λ _. refl; on-hold = λ _. refl; untimed = λ _. refl };
+      }
 
   module _ (s : Side) (g : Good card s) (ready : s .standing .state ≡ 1) where
     f : Bounded card s
@@ -182,8 +208,9 @@ module _ (card : Card) where
         record {
           good = by (h .fate);
           less =
-            rw (claim-open s (omega arith), claim-open (after o s) (some (h .fate)), h .settings)
-            (omega (arith, length-drop (o .released + o .flushed) (s .packets))) }
+              rw (claim-open s (omega arith), claim-open (after o s) (some (h .fate)), h .settings)
+              (omega (arith, length-drop (o .released + o .flushed) (s .packets)));
+        }
       where
         some : ((o .standing .state ≡ 1) × InOrder (after o s)) or ((o .standing .state ≡ 2) × (length (s .packets) ≤ o .released + o .flushed)) → 0 < o .standing .state
         some (left x) = omega (arith, x .0)
@@ -199,16 +226,25 @@ module _ (card : Card) where
         fair l =
             record {
               settings = rw (h .settings) (f .settings);
-              u-low = l .u-low; x-low = l .x-low; h-low = l .h-low; n-low = l .n-low;
+              u-low = l .u-low;
+              x-low = l .x-low;
+              h-low = l .h-low;
+              n-low = l .n-low;
               packets-low = each-drop Low k (s .packets) (f .packets-low);
               retries = rw (h .settings) (w .retries);
               rnrs = rw (h .settings) (w .rnrs);
-              held = rw (h .settings) (omega (arith, length-drop k (s .packets), f .held)) }
+              held = rw (h .settings) (omega (arith, length-drop k (s .packets), f .held));
+            }
 
         timed : Timed (after o s)
         timed =
             record {
-              hold = w .hold; elapsed = rw (h .settings) (w .elapsed); still = w .still; on-hold = w .on-hold; untimed = rw (h .settings) (w .untimed) }
+              hold = w .hold;
+              elapsed = rw (h .settings) (w .elapsed);
+              still = w .still;
+              on-hold = w .on-hold;
+              untimed = rw (h .settings) (w .untimed);
+            }
 
         by : ((o .standing .state ≡ 1) × InOrder (after o s)) or ((o .standing .state ≡ 2) × (length (s .packets) ≤ k)) → Good card (after o s)
         by (left x) =
@@ -218,7 +254,8 @@ module _ (card : Card) where
               bounded = λ _. fair (record { u-low = x .1 .u-low; x-low = x .1 .x-low; h-low = x .1 .h-low; n-low = x .1 .n-low });
               ordered = λ _. x .1;
               messages = held;
-              timed = λ _. timed }
+              timed = λ _. timed;
+            }
         by (right x) =
             record {
               state = omega (arith, x .0);
@@ -226,7 +263,8 @@ module _ (card : Card) where
               bounded = λ _. fair (w .lows (x .0));
               ordered = λ e. absurd (omega (arith, x .0, e));
               messages = held;
-              timed = λ e. absurd (omega (arith, x .0, e)) }
+              timed = λ e. absurd (omega (arith, x .0, e));
+            }
 
     pub good-acknowledge : (r y : ℕ) → r < psns → Follows card s (after (acknowledge r y s) s)
     good-acknowledge r y low =
@@ -240,9 +278,9 @@ module _ (card : Card) where
     good-response r opcode len low fits =
         good-after (response r s)
         (fine-response s ready (g .ordered ready) r low (λ h.
-          let u : unfit r opcode len s ≡ false = rw h at fits in
-          let one = covered (or-left _ _ (or-left _ _ u)) in
-          (one, span-small (s .standing .settings) (in-range (f .settings) .pmtu-low) (readAt r s) (each-at Short (s .packets) _ noPacket (held-short (s .standing .settings) (g .messages)) one))))
+        let u : unfit r opcode len s ≡ false = rw h at fits in
+        let one = covered (or-left _ _ (or-left _ _ u)) in
+        (one, span-small (s .standing .settings) (in-range (f .settings) .pmtu-low) (readAt r s) (each-at Short (s .packets) _ noPacket (held-short (s .standing .settings) (g .messages)) one))))
         (timely-response card s ready f (g .ordered ready) (g .timed ready) r low)
       where
         covered : eqb (ahead (covers (s .standing .settings) r) (s .packets)) (length (s .packets)) ≡ false
@@ -262,15 +300,27 @@ module _ (card : Card) where
     good-emitted budget =
         let o = ordered-emitted s (g .ordered ready) budget in
         let w = g .timed ready in
-        record { less = omega arith; good = record {
-          state = omega (arith, ready);
-          idle = λ n. absurd (n ready);
-          bounded = λ _. record {
-            settings = f .settings; u-low = f .u-low; x-low = o .x-low; h-low = o .h-low; n-low = f .n-low;
-            packets-low = f .packets-low; retries = f .retries; rnrs = f .rnrs; held = f .held };
-          ordered = λ _. o;
-          messages = g .messages;
-          timed = λ _. record { hold = w .hold; elapsed = w .elapsed; still = still-after _; on-hold = w .on-hold; untimed = w .untimed } } }
+        record {
+          less = omega arith;
+          good = record {
+            state = omega (arith, ready);
+            idle = λ n. absurd (n ready);
+            bounded = λ _. record {
+              settings = f .settings;
+              u-low = f .u-low;
+              x-low = o .x-low;
+              h-low = o .h-low;
+              n-low = f .n-low;
+              packets-low = f .packets-low;
+              retries = f .retries;
+              rnrs = f .rnrs;
+              held = f .held;
+            };
+            ordered = λ _. o;
+            messages = g .messages;
+            timed = λ _. record { hold = w .hold; elapsed = w .elapsed; still = still-after _; on-hold = w .on-hold; untimed = w .untimed };
+          };
+        }
 
     -- a post that is not refused
     pub good-posted : (m : Post) → Allowed (s .standing .settings) m
@@ -287,10 +337,17 @@ module _ (card : Card) where
           state = omega (arith, ready);
           idle = λ k. absurd (k ready);
           bounded = λ _. record {
-            settings = f .settings; u-low = f .u-low; x-low = f .x-low; h-low = f .h-low; n-low = o .n-low;
+            settings = f .settings;
+            u-low = f .u-low;
+            x-low = f .x-low;
+            h-low = f .h-low;
+            n-low = o .n-low;
             packets-low = each-append Low (s .packets) (packetsOf st m n) (f .packets-low) (packets-low st m n (f .n-low));
-            retries = f .retries; rnrs = f .rnrs;
-            held = omega (arith, length-append (s .packets) (packetsOf st m n), length-packets st m n) };
+            retries = f .retries;
+            rnrs = f .rnrs;
+            held = omega (arith, length-append (s .packets) (packetsOf st m n), length-packets st m n);
+          };
           ordered = λ _. o;
           messages = held-post st m n ok (omega (arith, length-packets st m n, slots-pos st m n)) (g .messages);
-          timed = λ _. record { hold = w .hold; elapsed = w .elapsed; still = w .still; on-hold = w .on-hold; untimed = w .untimed } }
+          timed = λ _. record { hold = w .hold; elapsed = w .elapsed; still = w .still; on-hold = w .on-hold; untimed = w .untimed };
+        }

@@ -29,12 +29,12 @@ module _ (s : Settings) where
   cut m first k j rest f r later h =
       by-test (ltb j (length (drop k (packetsOf s m first))))
       (λ e.
-        let lt = ltb-true j (length (drop k (packetsOf s m first))) e in
-        rear m first (k + j) rest f (omega (arith, length-drop k (packetsOf s m first), lt))
-          (drop-append-le j (drop k (packetsOf s m first)) rest (omega (arith, lt)) ∙ ap (λ (l : List Packet). l ++ rest) (drop-drop j k (packetsOf s m first)))
-          r)
+      let lt = ltb-true j (length (drop k (packetsOf s m first))) e in
+      rear m first (k + j) rest f (omega (arith, length-drop k (packetsOf s m first), lt))
+      (drop-append-le j (drop k (packetsOf s m first)) rest (omega (arith, lt)) ∙ ap (λ (l : List Packet). l ++ rest) (drop-drop j k (packetsOf s m first)))
+      r)
       (λ e.
-        rw (drop-past j (drop k (packetsOf s m first)) rest (ltb-false j (length (drop k (packetsOf s m first))) e)) (later (j - length (drop k (packetsOf s m first)))))
+      rw (drop-past j (drop k (packetsOf s m first)) rest (ltb-false j (length (drop k (packetsOf s m first))) e)) (later (j - length (drop k (packetsOf s m first)))))
 
   messages-drop : {ps : List Packet} → Messages s ps → (j : ℕ) → Remaining s (drop j ps)
   messages-drop no-more j = rw (drop-nil j) none-left

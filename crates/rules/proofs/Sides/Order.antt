@@ -35,10 +35,11 @@ module _ (size : Packet → ℕ) (u : ℕ) (u-low : u < psns) where
   -- seen from a later U, all places are less by as much
   pub runs-from : (b : ℕ) → b < psns → (o o′ : ℕ) → o ≡ distance u b + o′ → (ps : List Packet) (n : ℕ) → RunsLow size u o ps n → RunsLow size b o′ ps n
   runs-from b h o o′ e [] n r = omega (arith, distance-from u b n (omega arith))
-  runs-from b h o o′ e (p ∷ ps) n r =
-      (r .0
-      , omega (arith, distance-from u b (p .psn) (omega (arith, r .1)), r .1)
-      , runs-from b h (o + size p) (o′ + size p) (omega arith) ps n (r .2))
+  runs-from b h o o′ e (p ∷ ps) n r = (
+    r .0,
+    omega (arith, distance-from u b (p .psn) (omega (arith, r .1)), r .1),
+    runs-from b h (o + size p) (o′ + size p) (omega arith) ps n (r .2),
+  )
 
   pub runs-front : (k o d : ℕ) (ps : List Packet) (n : ℕ) → RunsLow size u o ps n → RunsLow size u d (drop k ps) n → o ≤ d
   runs-front zero o d [] n r r′ = omega arith
@@ -84,8 +85,8 @@ module _ (t : Standing) (u-low : t .line .u < psns) (b : ℕ) where
   all-before o (p ∷ ps) n r h k near a =
       by-test (before (t .line .u) (p .psn) b)
       (λ e. rw e (by-test (isRead p)
-        (λ q. absurd (not-suc-le-zero (rw (unanswered-is p (r .0) room, e, q) at a)))
-        (λ q. all-before (o + span (t .settings) p) ps n (r .2) (rw q (omega (arith, ltb-true, r .1))) k near (le-of-suc-le-suc (rw q at a)))))
+      (λ q. absurd (not-suc-le-zero (rw (unanswered-is p (r .0) room, e, q) at a)))
+      (λ q. all-before (o + span (t .settings) p) ps n (r .2) (rw q (omega (arith, ltb-true, r .1))) k near (le-of-suc-le-suc (rw q at a)))))
       (λ e. rw e (subst (λ (d : ℕ). RunsLow (span (t .settings)) (t .line .u) d (p ∷ ps) n) (omega (arith, ltb-false, r .1)) r))
     where
       room : distance (t .line .u) (p .psn) + span (t .settings) p ≤ half
@@ -110,10 +111,11 @@ module _ (t : Standing) (u-low : t .line .u < psns) (b : ℕ) where
         past = omega (arith, r .1);
         short = ltb-true _ _ (rw (unanswered-is p (r .0) room) at (and-right (isRead p) _ e));
         first = unanswered-is p (r .0) room;
-        runs = rw e (subst (λ (d : ℕ). RunsLow (span (t .settings)) (t .line .u) d (p ∷ ps) n) (sym (r .1)) r) }))
+        runs = rw e (subst (λ (d : ℕ). RunsLow (span (t .settings)) (t .line .u) d (p ∷ ps) n) (sym (r .1)) r);
+      }))
       (λ e.
-        let rest = halted (o + span (t .settings) p) ps n (r .2) near (le-of-suc-le-suc (rw e at a)) in
-        rw e (record { low = rest .low; past = omega (arith, rest .past); short = rest .short; first = rest .first; runs = rw e (rest .runs) }))
+      let rest = halted (o + span (t .settings) p) ps n (r .2) near (le-of-suc-le-suc (rw e at a)) in
+      rw e (record { low = rest .low; past = omega (arith, rest .past); short = rest .short; first = rest .first; runs = rw e (rest .runs) }))
     where
       room : distance (t .line .u) (p .psn) + span (t .settings) p ≤ half
       room = omega (arith, runs-end (span (t .settings)) (t .line .u) u-low (o + span (t .settings) p) ps n (r .2), r .1)
@@ -123,10 +125,11 @@ module _ (t : Standing) (u-low : t .line .u < psns) (b : ℕ) where
 -- a run from 0 starts at U
 pub starts-of : (s : Settings) (u : ℕ) → u < psns → (ps : List Packet) (n : ℕ) → RunsLow (span s) u 0 ps n → StartsLow (span s) u ps n
 starts-of s u low [] n r = r
-starts-of s u low (p ∷ ps) n r =
-    (r .0
-    , rw zero (span-pos s p)
-    , subst (λ (d : ℕ). RunsLow (span s) u d ps n) (omega (arith, zero)) (r .2))
+starts-of s u low (p ∷ ps) n r = (
+  r .0,
+  rw zero (span-pos s p),
+  subst (λ (d : ℕ). RunsLow (span s) u d ps n) (omega (arith, zero)) (r .2),
+)
   where
     zero : distance (p .psn) u ≡ 0
     zero = rw (distance-zero u (p .psn) low (r .0) (r .1)) (distance-same u)
@@ -155,7 +158,8 @@ kept-of s o u′ k low near r r′ =
       near = near;
       starts = starts-of (s .standing .settings) u′ low (drop k (s .packets)) (N s) there;
       stands = λ a h _. start-left (span (s .standing .settings)) (U s) (o .u-low) (span-pos (s .standing .settings)) a k 0 _ (s .packets) (N s) r r′ h;
-      past = past-of (s .standing .settings) u′ (H s) low (drop k (s .packets)) (N s) there }
+      past = past-of (s .standing .settings) u′ (H s) low (drop k (s .packets)) (N s) there;
+    }
   where
     there : RunsLow (span (s .standing .settings)) u′ 0 (drop k (s .packets)) (N s)
     there = runs-from (span (s .standing .settings)) (U s) (o .u-low) u′ low _ 0 (omega arith) (drop k (s .packets)) (N s) r′
@@ -170,17 +174,18 @@ ordered-after s o u′ k c =
       n-low = o .n-low;
       starts = c .starts;
       u-x-h =
-        by-test (before u x u′)
-        (λ e. rw (e, distance-same u′) (omega arith))
-        (λ e. rw e (omega (arith, ltb-false, from x (ltb-false _ _ e), from h (c .near), o .u-x-h)));
+          by-test (before u x u′)
+          (λ e. rw (e, distance-same u′) (omega arith))
+          (λ e. rw e (omega (arith, ltb-false, from x (ltb-false _ _ e), from h (c .near), o .u-x-h)));
       u-h-n = omega (arith, from h (c .near), from n to-n, o .u-h-n);
       near = omega (arith, from n to-n, o .near);
       x-stands =
-        by-test (before u x u′)
-        (λ e. rw e (left refl))
-        (λ e. rw e (stand x (ltb-false _ _ e) (omega (arith, o .u-x-h, o .u-h-n)) (o .x-stands)));
+          by-test (before u x u′)
+          (λ e. rw e (left refl))
+          (λ e. rw e (stand x (ltb-false _ _ e) (omega (arith, o .u-x-h, o .u-h-n)) (o .x-stands)));
       h-stands = stand h (c .near) (o .u-h-n) (o .h-stands);
-      h-past = c .past }
+      h-past = c .past;
+    }
   where
     u : ℕ
     u = U s
@@ -233,17 +238,19 @@ whole-or-part s u n low [] h = left h
 whole-or-part s u n low (p ∷ ps) h =
     by-test (eqb (distance (p .psn) u) 0)
     (λ e.
-      let z = eqb-true (distance (p .psn) u) 0 e in
-      left
-        (h .0
-        , rw (distance-zero (p .psn) u (h .0) low z) (distance-same (p .psn))
-        , subst (λ (d : ℕ). RunsLow (span s) u d ps n) (omega (arith, z)) (h .2)))
+    let z = eqb-true (distance (p .psn) u) 0 e in
+    left (
+      h .0,
+      rw (distance-zero (p .psn) u (h .0) low z) (distance-same (p .psn)),
+      subst (λ (d : ℕ). RunsLow (span s) u d ps n) (omega (arith, z)) (h .2),
+    ))
     (λ e. right (record {
       head = p;
       tail = ps;
       is = refl;
       read = by-test (isRead p) (λ q. q) (λ q. absurd (omega (arith, eqb-false (distance (p .psn) u) 0 e, rw q at (h .1))));
-      inside = h .1 }))
+      inside = h .1;
+    }))
 
 module _ (s : Side) (o : InOrder s) where
   kept-same : Kept s (U s) 0
@@ -256,12 +263,15 @@ module _ (s : Side) (o : InOrder s) where
     kept-whole r =
         by-test (ltb (ahead (passedBy b (s .standing)) (s .packets)) (length (s .packets)))
         (λ e.
-          let c = halted (s .standing) (o .u-low) b 0 (s .packets) (N s) r (o .near) (ltb-true _ _ e) in
-          rw (e, c .first) (_, refl, kept-of s o _ _ (c .low) (omega (arith, near, c .short)) r (c .runs)))
+        let c = halted (s .standing) (o .u-low) b 0 (s .packets) (N s) r (o .near) (ltb-true _ _ e) in
+        rw (e, c .first) (_, refl, kept-of s o _ _ (c .low) (omega (arith, near, c .short)) r (c .runs)))
         (λ e.
-          rw e
-          (b, refl, kept-of s o b _ low near r
-            (all-before (s .standing) (o .u-low) b 0 (s .packets) (N s) r (omega arith) (omega (arith, near, o .u-h-n)) (o .near) (ltb-false _ _ e))))
+        rw e (
+          b,
+          refl,
+          kept-of s o b _ low near r
+              (all-before (s .standing) (o .u-low) b 0 (s .packets) (N s) r (omega arith) (omega (arith, near, o .u-h-n)) (o .near) (ltb-false _ _ e)),
+        ))
 
     kept-part : Part (s .standing .settings) (U s) (s .packets)
         → (u′ : ℕ) × (release b s .standing ≡ advanced u′ (s .standing)) × Kept s u′ (release b s .released)
@@ -270,9 +280,9 @@ module _ (s : Side) (o : InOrder s) where
         by-test (ltb 0 (distance (U s) b))
         (λ e. rw (first e, some, head, at-u) (_, refl, kept-same))
         (λ e.
-          let z = zero e in
-          rw (le-ltb _ _ (none-passed (s .standing) b z (s .packets)), none-before (s .standing) b z (s .packets))
-          (b, refl, rw (distance-zero (U s) b (o .u-low) low z) kept-same))
+        let z = zero e in
+        rw (le-ltb _ _ (none-passed (s .standing) b z (s .packets)), none-before (s .standing) b z (s .packets))
+        (b, refl, rw (distance-zero (U s) b (o .u-low) low z) kept-same))
       where
         at-u : unanswered (s .standing) (c .head) ≡ U s
         at-u = rw (lt-ltb _ _ (c .inside))

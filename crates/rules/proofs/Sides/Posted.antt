@@ -55,10 +55,11 @@ module _ (s : Settings) (m : Post) (u first : ℕ) (u-low : u < psns) where
   packets-run : m .kind ≤ 1 → (i k o j : ℕ) → o ≡ distance u first + i → j ≡ i + k → distance u first + j ≤ half
       → RunsLow (span s) u o (map (packetAt s m first) (from i k)) (plus first j)
   packets-run kd i zero o j e f h = omega (arith, distance-step u first j (omega arith))
-  packets-run kd i (suc k) o j e f h =
-      (omega arith
-      , omega (arith, distance-step u first i (omega arith))
-      , packets-run kd (suc i) k (o + span s (packetAt s m first i)) j (rw (no-read m (packetsFor (pmtu s) (m .length)) i kd) (omega arith)) (omega arith) h)
+  packets-run kd i (suc k) o j e f h = (
+    omega arith,
+    omega (arith, distance-step u first i (omega arith)),
+    packets-run kd (suc i) k (o + span s (packetAt s m first i)) j (rw (no-read m (packetsFor (pmtu s) (m .length)) i kd) (omega arith)) (omega arith) h,
+  )
 
   pub post-runs : first < psns → distance u first + packetsFor (pmtu s) (m .length) ≤ half → m .kind ≤ 2
       → RunsLow (span s) u (distance u first) (packetsOf s m first) (plus first (packetsFor (pmtu s) (m .length)))
@@ -92,7 +93,8 @@ ordered-posted s o m kd h =
       near = omega (arith, end);
       x-stands = stand (X s) (o .x-stands);
       h-stands = stand (H s) (o .h-stands);
-      h-past = past (s .packets) (o .starts) (o .h-past) }
+      h-past = past (s .packets) (o .starts) (o .h-past);
+    }
   where
     st : Settings
     st = s .standing .settings

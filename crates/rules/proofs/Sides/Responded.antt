@@ -51,13 +51,14 @@ module _ (s : Side) (o : InOrder s) (p : Packet) (ps : List Packet) (is : s .pac
         low = omega arith;
         near = omega (arith, one);
         starts =
-          subst (λ (l : List Packet). StartsLow (span (s .standing .settings)) (plus (U s) 1) (drop 1 l) (N s)) (sym is)
-          (starts-of (s .standing .settings) (plus (U s) 1) (omega arith) ps (N s) there);
+            subst (λ (l : List Packet). StartsLow (span (s .standing .settings)) (plus (U s) 1) (drop 1 l) (N s)) (sym is)
+            (starts-of (s .standing .settings) (plus (U s) 1) (omega arith) ps (N s) there);
         stands = λ a l m.
-          subst (λ (k : List Packet). Start a k → Start a (drop 1 k)) (sym is) (pick a (omega (arith, one, l)) (omega (arith, m, o .near)));
+            subst (λ (k : List Packet). Start a k → Start a (drop 1 k)) (sym is) (pick a (omega (arith, one, l)) (omega (arith, m, o .near)));
         past =
-          subst (λ (l : List Packet). Past (span (s .standing .settings)) (plus (U s) 1) (H s) (drop 1 l)) (sym is)
-          (past-of (s .standing .settings) (plus (U s) 1) (H s) (omega arith) ps (N s) there) }
+            subst (λ (l : List Packet). Past (span (s .standing .settings)) (plus (U s) 1) (H s) (drop 1 l)) (sym is)
+            (past-of (s .standing .settings) (plus (U s) 1) (H s) (omega arith) ps (N s) there);
+      }
     where
       there : RunsLow (span (s .standing .settings)) (plus (U s) 1) 0 ps (N s)
       there =
@@ -85,12 +86,13 @@ module _ (s : Side) (o : InOrder s) (p : Packet) (ps : List Packet) (is : s .pac
         low = omega arith;
         near = omega (arith, one);
         starts =
-          subst (λ (l : List Packet). StartsLow (span (s .standing .settings)) (plus (U s) 1) l (N s)) (sym is)
-          (starts .0, omega (arith, on, e), there);
+            subst (λ (l : List Packet). StartsLow (span (s .standing .settings)) (plus (U s) 1) l (N s)) (sym is)
+            (starts .0, omega (arith, on, e), there);
         stands = λ a l m q. q;
         past =
-          subst (λ (l : List Packet). Past (span (s .standing .settings)) (plus (U s) 1) (H s) l) (sym is)
-          (λ _. omega (arith, on, one, h-far, distance-from (U s) (plus (U s) 1) (H s) (omega (arith, one)))) }
+            subst (λ (l : List Packet). Past (span (s .standing .settings)) (plus (U s) 1) (H s) l) (sym is)
+            (λ _. omega (arith, on, one, h-far, distance-from (U s) (plus (U s) 1) (H s) (omega (arith, one))));
+      }
     where
       on : distance (p .psn) (plus (U s) 1) ≡ suc (distance (p .psn) (U s))
       on = omega (arith, distance-step (p .psn) (U s) 1 (omega (arith, starts .1)))
@@ -120,9 +122,14 @@ module _ (t : Standing) (u-low : t .line .u < psns) (r : ℕ) (r-low : r < psns)
     where
       far : span (t .settings) p ≤ distance (p .psn) r
       far =
-          omega (arith, q .1, near, runs-end (span (t .settings)) (t .line .u) u-low (o + span (t .settings) p) ps n (q .2),
+          omega (
+            arith,
+            q .1,
+            near,
+            runs-end (span (t .settings)) (t .line .u) u-low (o + span (t .settings) p) ps n (q .2),
             distance-from (t .line .u) r (p .psn) (omega (arith, q .1)),
-            distance-round r (p .psn) (omega (arith, q .1, distance-from (t .line .u) r (p .psn) (omega (arith, q .1)))))
+            distance-round r (p .psn) (omega (arith, q .1, distance-from (t .line .u) r (p .psn) (omega (arith, q .1)))),
+          )
 
   -- no read is before r, and one has it: as many stand ahead of it as are before r
   pub covers-first : (o : ℕ) (ps : List Packet) → RunsLow (span (t .settings)) (t .line .u) o ps n → o ≤ distance (t .line .u) r
@@ -132,13 +139,15 @@ module _ (t : Standing) (u-low : t .line .u < psns) (r : ℕ) (r-low : r < psns)
   covers-first o (p ∷ ps) q l a c =
       by-test (before (t .line .u) (p .psn) r)
       (λ e.
-        let plain : isRead p ≡ false = no-read t u-low r n near o p ps q (not-passed a) e in
-        rw (e, plain) (ap suc (covers-first (o + span (t .settings) p) ps (q .2) (rw plain (omega (arith, ltb-true, q .1))) (less (not-passed a) a) (le-of-suc-le-suc (rw plain at c)))))
+      let plain : isRead p ≡ false = no-read t u-low r n near o p ps q (not-passed a) e in
+      rw (e, plain) (ap suc (covers-first (o + span (t .settings) p) ps (q .2) (rw plain (omega (arith, ltb-true, q .1))) (less (not-passed a) a) (le-of-suc-le-suc (rw plain at c)))))
       (λ e.
-        rw e (if-case (λ (k : ℕ). k ≡ 0) (covers (t .settings) r p) (λ _. refl)
-          (λ f. absurd (omega (arith,
-            none-covers (o + span (t .settings) p) ps (q .2) (omega (arith, ltb-false, q .1, span-pos (t .settings) p)),
-            rw f at c)))))
+      rw e (if-case (λ (k : ℕ). k ≡ 0) (covers (t .settings) r p) (λ _. refl)
+      (λ f. absurd (omega (
+        arith,
+        none-covers (o + span (t .settings) p) ps (q .2) (omega (arith, ltb-false, q .1, span-pos (t .settings) p)),
+        rw f at c,
+      )))))
     where
       not-passed : length (p ∷ ps) ≤ ahead (passedBy r t) (p ∷ ps) → passedBy r t p ≡ false
       not-passed a = by-test (passedBy r t p) (λ f. absurd (not-suc-le-zero (rw f at a))) (λ f. f)

@@ -58,8 +58,8 @@ module _ (s : Side) (ready : s .standing .state ≡ 1) (o : InOrder s) (r : ℕ)
           by-test (ltb 0 (distance (U s) r))
           (λ f. absurd (not-suc-le-zero (rw (q .is) at (rw (first f) at (c .none)))))
           (λ f.
-            let z : distance (U s) r ≡ 0 = omega (arith, ltb-false) in
-            covered (distance-zero (U s) r (o .u-low) low z) ∙ sym (none-before (s .standing) r z (s .packets)))
+          let z : distance (U s) r ≡ 0 = omega (arith, ltb-false) in
+          covered (distance-zero (U s) r (o .u-low) low z) ∙ sym (none-before (s .standing) r z (s .packets)))
         where
           at-u : unanswered (s .standing) (q .head) ≡ U s
           at-u = rw (lt-ltb _ _ (q .inside))
@@ -91,35 +91,38 @@ module _ (s : Side) (ready : s .standing .state ≡ 1) (o : InOrder s) (r : ℕ)
     within = subst (λ (l : List Packet). StartsLow (span (s .standing .settings)) r l (N s)) (left-is e) (mid-ordered .starts) .1
 
     one-on : InOrder (record {
-        standing = advanced (plus r 1) (advanced r (s .standing));
-        packets = drop (release r s .released + (if eqb (suc (distance (readAt r s .psn) r)) (span (s .standing .settings) (readAt r s)) then 1 else 0)) (s .packets) })
+      standing = advanced (plus r 1) (advanced r (s .standing));
+      packets = drop (release r s .released + (if eqb (suc (distance (readAt r s .psn) r)) (span (s .standing .settings) (readAt r s)) then 1 else 0)) (s .packets);
+    })
     unfolding mid
     one-on =
         if-case (λ (last : ℕ). InOrder (record { standing = advanced (plus r 1) (advanced r (s .standing)); packets = drop (release r s .released + last) (s .packets) }))
         (eqb (suc (distance (readAt r s .psn) r)) (span (s .standing .settings) (readAt r s)))
         (λ q.
-          rw (← drop-drop 1 (release r s .released) (s .packets))
-          (ordered-last mid mid-ordered (readAt r s) (drop (suc (release r s .released)) (s .packets)) (left-is e) small mid-sent
-            (eqb-true (suc (distance (readAt r s .psn) r)) (span (s .standing .settings) (readAt r s)) q)))
+        rw (← drop-drop 1 (release r s .released) (s .packets))
+        (ordered-last mid mid-ordered (readAt r s) (drop (suc (release r s .released)) (s .packets)) (left-is e) small mid-sent
+        (eqb-true (suc (distance (readAt r s .psn) r)) (span (s .standing .settings) (readAt r s)) q)))
         (λ q.
-          rw (← drop-drop 0 (release r s .released) (s .packets))
-          (ordered-inside mid mid-ordered (readAt r s) (drop (suc (release r s .released)) (s .packets)) (left-is e) small mid-sent
-            (omega (arith, within, eqb-false (suc (distance (readAt r s .psn) r)) (span (s .standing .settings) (readAt r s)) q))))
+        rw (← drop-drop 0 (release r s .released) (s .packets))
+        (ordered-inside mid mid-ordered (readAt r s) (drop (suc (release r s .released)) (s .packets)) (left-is e) small mid-sent
+        (omega (arith, within, eqb-false (suc (distance (readAt r s .psn) r)) (span (s .standing .settings) (readAt r s)) q))))
 
 -- seen from the U that the call found, or from R: the same
 seen : (u r x : ℕ) → u < psns → r < psns → distance u r < half → distance u r ≤ distance u x → before u x (plus r 1) ≡ before r x (plus r 1)
 seen u r x h l n m =
     rw (distance-step u r 1 (omega arith), distance-plus r 1 (omega arith), distance-from u r x m)
     (by-test (ltb (distance u x) (distance u r + 1))
-      (λ e. e ∙ sym (lt-ltb (distance u x - distance u r) 1 (omega (arith, ltb-true (distance u x) (distance u r + 1) e))))
-      (λ e. e ∙ sym (le-ltb (distance u x - distance u r) 1 (omega (arith, ltb-false (distance u x) (distance u r + 1) e)))))
+    (λ e. e ∙ sym (lt-ltb (distance u x - distance u r) 1 (omega (arith, ltb-true (distance u x) (distance u r + 1) e))))
+    (λ e. e ∙ sym (le-ltb (distance u x - distance u r) 1 (omega (arith, ltb-false (distance u x) (distance u r + 1) e)))))
 
 taken-is : (s : Side) → InOrder s → (r : ℕ) → r < psns → inside r s ≡ true
     → taken (U s) (plus r 1) (advanced r (s .standing)) ≡ advanced (plus r 1) (advanced r (s .standing))
 taken-is s o r low h =
-    rw (seen (U s) r (further (U s) (X s) r) (o .u-low) low (omega (arith, ltb-true, o .u-h-n, o .near))
-        (if-case (λ (x : ℕ). distance (U s) r ≤ distance (U s) x) (before (U s) (X s) r) (λ _. omega arith) (λ e. ltb-false (distance (U s) (X s)) (distance (U s) r) e))
-      , ne-eqb (plus r 1) r (λ e. omega (arith, e)))
+    rw (
+      seen (U s) r (further (U s) (X s) r) (o .u-low) low (omega (arith, ltb-true, o .u-h-n, o .near))
+          (if-case (λ (x : ℕ). distance (U s) r ≤ distance (U s) x) (before (U s) (X s) r) (λ _. omega arith) (λ e. ltb-false (distance (U s) (X s)) (distance (U s) r) e)),
+      ne-eqb (plus r 1) r (λ e. omega (arith, e)),
+    )
 
 -- a response that fits if it is inside the open range
 pub fine-response : (s : Side) → s .standing .state ≡ 1 → InOrder s → (r : ℕ) → r < psns
@@ -134,4 +137,5 @@ fine-response s ready o r low fits =
     (λ _. again s ready o r low h r low (omega (arith, in-range s ready o r low h one)) Resending _ _)
     (λ f. record {
       settings = release-keeps s ready o r .1;
-      fate = left (release-keeps s ready o r .0, rw (add-zero, clear r s f .standing, taken-is s o r low h) (one-on s ready o r low h one (fits h .1) f)) }))
+      fate = left (release-keeps s ready o r .0, rw (add-zero, clear r s f .standing, taken-is s o r low h) (one-on s ready o r low h one (fits h .1) f));
+    }))

@@ -40,11 +40,11 @@ module _ (t : Standing) (u-low : t .line .u < psns) (b n : ℕ) (near : distance
       by-test (passedBy b t p)
       (λ e. rw (e, and-left (isRead p) _ e))
       (λ e.
-        let a′ = le-of-suc-le-suc (rw e at a) in
-        let c = halted t u-low b (o + span (t .settings) p) ps n (r .2) near a′ in
-        let early : distance (t .line .u) (p .psn) < distance (t .line .u) b = omega (arith, r .1, c .past, c .short, span-pos (t .settings) p) in
-        let sure : before (t .line .u) (p .psn) b ≡ true = lt-ltb (distance (t .line .u) (p .psn)) (distance (t .line .u) b) early in
-        rw (e, no-read o p ps r e sure, sure) (ap suc (scan-stopped (o + span (t .settings) p) ps (r .2) a′)))
+      let a′ = le-of-suc-le-suc (rw e at a) in
+      let c = halted t u-low b (o + span (t .settings) p) ps n (r .2) near a′ in
+      let early : distance (t .line .u) (p .psn) < distance (t .line .u) b = omega (arith, r .1, c .past, c .short, span-pos (t .settings) p) in
+      let sure : before (t .line .u) (p .psn) b ≡ true = lt-ltb (distance (t .line .u) (p .psn)) (distance (t .line .u) b) early in
+      rw (e, no-read o p ps r e sure, sure) (ap suc (scan-stopped (o + span (t .settings) p) ps (r .2) a′)))
 
   scan-clear : (ps : List Packet) (o : ℕ) → RunsLow (span (t .settings)) (t .line .u) o ps n → length ps ≤ ahead (passedBy b t) ps
       → ahead (stays b t) ps ≡ ahead (λ p. not (before (t .line .u) (p .psn) b)) ps
@@ -53,8 +53,8 @@ module _ (t : Standing) (u-low : t .line .u < psns) (b n : ℕ) (near : distance
       by-test (passedBy b t p)
       (λ e. absurd (not-suc-le-zero (rw e at a)))
       (λ e. by-test (before (t .line .u) (p .psn) b)
-        (λ sure. rw (no-read o p ps r e sure, sure) (ap suc (scan-clear ps (o + span (t .settings) p) (r .2) (le-of-suc-le-suc (rw e at a)))))
-        (λ sure. rw (sure, or-any (isRead p))))
+      (λ sure. rw (no-read o p ps r e sure, sure) (ap suc (scan-clear ps (o + span (t .settings) p) (r .2) (le-of-suc-le-suc (rw e at a)))))
+      (λ sure. rw (sure, or-any (isRead p))))
 
 -- how many leave is how many the scan passes over
 pub released-is : (s : Side) → InOrder s → (b : ℕ) → release b s .released ≡ ahead (stays b (s .standing)) (s .packets)
@@ -70,10 +70,10 @@ released-is s o b = go (whole-or-part (s .standing .settings) (U s) (N s) (o .u-
     go (right c) =
         rw (stands)
         (by-test (ltb 0 (distance (U s) b))
-          (λ e. rw (first e, some))
-          (λ e.
-            let z : distance (U s) b ≡ 0 = omega (arith, ltb-false) in
-            rw (le-ltb _ _ (none-passed (s .standing) b z (s .packets)), none-before (s .standing) b z (s .packets))))
+        (λ e. rw (first e, some))
+        (λ e.
+        let z : distance (U s) b ≡ 0 = omega (arith, ltb-false) in
+        rw (le-ltb _ _ (none-passed (s .standing) b z (s .packets)), none-before (s .standing) b z (s .packets))))
       where
         stands : ahead (stays b (s .standing)) (s .packets) ≡ 0
         stands = rw (c .is) (rw (c .read))

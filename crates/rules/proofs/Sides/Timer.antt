@@ -21,8 +21,18 @@ pub ordered-clock : (t : Standing) (ps : List Packet) (c : Clock) → InOrder (r
     → InOrder (record { standing = record { state = t .state; settings = t .settings; line = t .line; clock = c }; packets = ps })
 ordered-clock t ps c o =
     record {
-      u-low = o .u-low; x-low = o .x-low; h-low = o .h-low; n-low = o .n-low; starts = o .starts; u-x-h = o .u-x-h; u-h-n = o .u-h-n;
-      near = o .near; x-stands = o .x-stands; h-stands = o .h-stands; h-past = o .h-past }
+      u-low = o .u-low;
+      x-low = o .x-low;
+      h-low = o .h-low;
+      n-low = o .n-low;
+      starts = o .starts;
+      u-x-h = o .u-x-h;
+      u-h-n = o .u-h-n;
+      near = o .near;
+      x-stands = o .x-stands;
+      h-stands = o .h-stands;
+      h-past = o .h-past;
+    }
 
 module _ (s : Side) (ready : s .standing .state ≡ 1) (o : InOrder s) where
   tick : (a : Answer) (elapsed hold : ℕ) → Fine s (ticked a elapsed hold (s .standing))
@@ -39,4 +49,5 @@ module _ (s : Side) (ready : s .standing .state ≡ 1) (o : InOrder s) where
       (λ _. record { settings = refl; fate = right (refl, omega arith) })
       (λ _. record {
         settings = refl;
-        fate = left (ready, ordered-resent (s .standing) (s .packets) _ (s .standing .clock .rnrs) (s .standing .clock .hold) o) }))))
+        fate = left (ready, ordered-resent (s .standing) (s .packets) _ (s .standing .clock .rnrs) (s .standing .clock .hold) o);
+      }))))

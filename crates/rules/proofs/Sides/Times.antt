@@ -77,7 +77,15 @@ module _ (card : Card) (s : Side) (ready : s .standing .state ≡ 1) (f : Bounde
   same : Timely st (s .standing)
   same =
       record {
-        lows = alive _ refl; retries = f .retries; rnrs = f .rnrs; hold = w .hold; elapsed = w .elapsed; still = w .still; on-hold = w .on-hold; untimed = w .untimed }
+        lows = alive _ refl;
+        retries = f .retries;
+        rnrs = f .rnrs;
+        hold = w .hold;
+        elapsed = w .elapsed;
+        still = w .still;
+        on-hold = w .on-hold;
+        untimed = w .untimed;
+      }
 
   -- X back at U, elapsed 0
   back : (b rnrs hold : ℕ) → rnrs ≤ st .rnr → hold ≤ longestHold → Timely st (resent (release b s .standing .clock .retries) rnrs hold (release b s .standing))
@@ -91,14 +99,14 @@ module _ (card : Card) (s : Side) (ready : s .standing .state ≡ 1) (f : Bounde
       let c = counts b in
       let low = f .n-low in
       calm (λ _. record { u-low = omega (arith, c .n); x-low = omega (arith, c .n); h-low = omega (arith, c .n); n-low = omega (arith, c .n) })
-        (c .retries) (c .rnrs) (omega arith) refl
+      (c .retries) (c .rnrs) (omega arith) refl
 
   module _ (r : ℕ) (low : r < psns) (h : inside r s ≡ true) where
     moved : eqb (plus r 1) (U s) ≡ false
     moved =
         ne-eqb (plus r 1) (U s) (λ e.
-          let c = ltb-true (distance (U s) r) (distance (U s) (H s)) h in
-          omega (arith, c, o .u-h-n, o .near, distance-step (U s) r 1 (omega (arith, c, o .u-h-n, o .near)), ap (distance (U s)) e, distance-same (U s)))
+        let c = ltb-true (distance (U s) r) (distance (U s) (H s)) h in
+        omega (arith, c, o .u-h-n, o .near, distance-step (U s) r 1 (omega (arith, c, o .u-h-n, o .near)), ap (distance (U s)) e, distance-same (U s)))
 
     timely-ack : Timely st (ack r s .standing)
     timely-ack =
@@ -140,26 +148,30 @@ module _ (card : Card) (s : Side) (ready : s .standing .state ≡ 1) (f : Bounde
       if-case (λ (x : Outcome). Timely st (x .standing)) (release r s .stopped)
       (λ _. as-was r)
       (λ q.
-        rw (clear r s q .standing)
-        (calm (alive _ refl) (omega arith) (omega arith) (omega (arith, counts-at r .hold, w .hold)) refl)))
+      rw (clear r s q .standing)
+      (calm (alive _ refl) (omega arith) (omega arith) (omega (arith, counts-at r .hold, w .hold)) refl)))
 
   pub timely-timer : (e : ℕ) → Timely st (timer e s .standing)
   unfolding timer
   timely-timer e =
       if-case (λ (x : Outcome). Timely st (x .standing)) (ltb 0 (s .standing .clock .hold))
       (λ h.
-        let z = w .on-hold (ltb-true 0 (s .standing .clock .hold) h) in
-        if-case (λ (x : Outcome). Timely st (x .standing)) (leb (s .standing .clock .hold) e)
-        (λ _. calm (alive _ refl) (f .retries) (f .rnrs) (omega arith) z)
-        (λ _. calm (alive _ refl) (f .retries) (f .rnrs) (omega (arith, w .hold)) z)) (λ h.
+      let z = w .on-hold (ltb-true 0 (s .standing .clock .hold) h) in
+      if-case (λ (x : Outcome). Timely st (x .standing)) (leb (s .standing .clock .hold) e)
+      (λ _. calm (alive _ refl) (f .retries) (f .rnrs) (omega arith) z)
+      (λ _. calm (alive _ refl) (f .retries) (f .rnrs) (omega (arith, w .hold)) z)) (λ h.
       if-case (λ (x : Outcome). Timely st (x .standing)) (eqb (U s) (H s) || eqb (st .timeout) 0) (λ _. same) (λ q.
       if-case (λ (x : Outcome). Timely st (x .standing)) (ltb (s .standing .clock .elapsed + e) (timeoutOf st))
       (λ l. record {
-        lows = alive _ refl; retries = f .retries; rnrs = f .rnrs; hold = w .hold;
+        lows = alive _ refl;
+        retries = f .retries;
+        rnrs = f .rnrs;
+        hold = w .hold;
         elapsed = ltb-true (s .standing .clock .elapsed + e) (timeoutOf st) l;
         still = λ g. absurd (eqb-false (U s) (H s) (or-left (eqb (U s) (H s)) _ q) g);
         on-hold = λ g. absurd (omega (arith, ltb-false 0 (s .standing .clock .hold) h));
-        untimed = λ g. absurd (eqb-false (st .timeout) 0 (or-right (eqb (U s) (H s)) _ q) g) }) (λ _.
+        untimed = λ g. absurd (eqb-false (st .timeout) 0 (or-right (eqb (U s) (H s)) _ q) g);
+      }) (λ _.
       if-case (λ (x : Outcome). Timely st (x .standing)) (eqb (s .standing .clock .retries) 0)
       (λ _. calm (λ _. record { u-low = f .n-low; x-low = f .n-low; h-low = f .n-low; n-low = f .n-low }) (f .retries) (f .rnrs) (omega arith) refl)
       (λ _. calm (alive _ refl) (omega (arith, f .retries)) (f .rnrs) (w .hold) refl))))

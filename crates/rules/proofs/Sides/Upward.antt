@@ -41,12 +41,17 @@ module _ (t : Standing) (u-low : t .line .u < psns) (n : ℕ) (n-low : n < psns)
 
   runs-upward : (o x : ℕ) (ps : List Packet) → x < psns → distance (t .line .u) x ≡ o → RunsLow (span (t .settings)) (t .line .u) o ps n → Upward t x ps
   runs-upward o x [] low e r = tt
-  runs-upward o x (p ∷ ps) low e r =
-      (own o p ps r ∙ distance-inj (t .line .u) (p .psn) x (r .0) low (r .1 ∙ sym e)
-      , runs-upward (o + span (t .settings) p) (ends (t .settings) p) ps (omega arith)
-          (omega (arith, r .1, distance-step (t .line .u) (p .psn) (span (t .settings) p)
-            (omega (arith, r .1, near, runs-end (span (t .settings)) (t .line .u) u-low (o + span (t .settings) p) ps n (r .2)))))
-          (r .2))
+  runs-upward o x (p ∷ ps) low e r = (
+    own o p ps r ∙ distance-inj (t .line .u) (p .psn) x (r .0) low (r .1 ∙ sym e),
+    runs-upward (o + span (t .settings) p) (ends (t .settings) p) ps (omega arith)
+        (omega (
+          arith,
+          r .1,
+          distance-step (t .line .u) (p .psn) (span (t .settings) p)
+              (omega (arith, r .1, near, runs-end (span (t .settings)) (t .line .u) u-low (o + span (t .settings) p) ps n (r .2))),
+        ))
+        (r .2),
+  )
 
   -- the records that end after x, where x is a start or N
   runs-waiting : (x o : ℕ) (ps : List Packet) → x < psns → RunsLow (span (t .settings)) (t .line .u) o ps n → (x ≡ n) or Start x ps
@@ -58,11 +63,11 @@ module _ (t : Standing) (u-low : t .line .u < psns) (n : ℕ) (n-low : n < psns)
       let step = distance-step u (p .psn) (span (t .settings) p) (omega (arith, r .1, near, end)) in
       by-test (before u x (ends (t .settings) p))
       (λ e.
-        let early : distance u x < o + span (t .settings) p = omega (arith, ltb-true (distance u x) (distance u (ends (t .settings) p)) e, step, r .1) in
-        rw e (runs-upward o x (p ∷ ps) low (first early s) r))
+      let early : distance u x < o + span (t .settings) p = omega (arith, ltb-true (distance u x) (distance u (ends (t .settings) p)) e, step, r .1) in
+      rw e (runs-upward o x (p ∷ ps) low (first early s) r))
       (λ e.
-        let late : o + span (t .settings) p ≤ distance u x = omega (arith, ltb-false (distance u x) (distance u (ends (t .settings) p)) e, step, r .1) in
-        rw e (runs-waiting x (o + span (t .settings) p) ps low (r .2) (next late s)))
+      let late : o + span (t .settings) p ≤ distance u x = omega (arith, ltb-false (distance u x) (distance u (ends (t .settings) p)) e, step, r .1) in
+      rw e (runs-waiting x (o + span (t .settings) p) ps low (r .2) (next late s)))
     where
       first : distance (t .line .u) x < o + span (t .settings) p → (x ≡ n) or Start x (p ∷ ps) → distance (t .line .u) x ≡ o
       first early (left q) =
@@ -119,13 +124,14 @@ module _ (s : Side) (o : InOrder s) (p : Packet) (ps : List Packet) (h : StartsL
   from-first x =
       by-test (before (U s) (X s) (ends (s .standing .settings) p))
       (λ e.
-        let early : distance (U s) (X s) < rest = omega (arith, ltb-true (distance (U s) (X s)) (distance (U s) (ends (s .standing .settings) p)) e, end) in
-        rw e
-        (at-u (s .standing) p (o .u-low) (h .0) (h .1) ∙ sym (here early x)
-        , runs-upward (s .standing) (o .u-low) (N s) (o .n-low) (o .near) rest (ends (s .standing .settings) p) ps (omega arith) end (h .2)))
+      let early : distance (U s) (X s) < rest = omega (arith, ltb-true (distance (U s) (X s)) (distance (U s) (ends (s .standing .settings) p)) e, end) in
+      rw e (
+        at-u (s .standing) p (o .u-low) (h .0) (h .1) ∙ sym (here early x),
+        runs-upward (s .standing) (o .u-low) (N s) (o .n-low) (o .near) rest (ends (s .standing .settings) p) ps (omega arith) end (h .2),
+      ))
       (λ e.
-        let late : rest ≤ distance (U s) (X s) = omega (arith, ltb-false (distance (U s) (X s)) (distance (U s) (ends (s .standing .settings) p)) e, end) in
-        rw e (runs-waiting (s .standing) (o .u-low) (N s) (o .n-low) (o .near) (X s) rest ps (o .x-low) (h .2) (there late x)))
+      let late : rest ≤ distance (U s) (X s) = omega (arith, ltb-false (distance (U s) (X s)) (distance (U s) (ends (s .standing .settings) p)) e, end) in
+      rw e (runs-waiting (s .standing) (o .u-low) (N s) (o .n-low) (o .near) (X s) rest ps (o .x-low) (h .2) (there late x)))
 
 pub upward : (s : Side) → InOrder s → Each (λ p. span (s .standing .settings) p ≤ suc half) (s .packets) → Upward (s .standing) (X s) (waiting s)
 upward s o small = go (s .packets) (o .starts) small (o .x-stands)

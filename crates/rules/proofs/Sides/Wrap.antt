@@ -30,12 +30,14 @@ abbrev around : Side
 around =
     record {
       standing =
-        record {
-          state = 1;
-          settings = record { far = 7; pkey = 65535; pmtu = 1; share = 8; ceiling = 16; retry = 7; rnr = 7; timeout = 14 };
-          line = record { u = 0; x = 0; h = 0; n = 0 };
-          clock = record { retries = 7; rnrs = 7; elapsed = 0; hold = 0 } };
-      packets = read 0 ∷ read 8388608 ∷ [] }
+          record {
+            state = 1;
+            settings = record { far = 7; pkey = 65535; pmtu = 1; share = 8; ceiling = 16; retry = 7; rnr = 7; timeout = 14 };
+            line = record { u = 0; x = 0; h = 0; n = 0 };
+            clock = record { retries = 7; rnrs = 7; elapsed = 0; hold = 0 };
+          };
+      packets = read 0 ∷ read 8388608 ∷ [];
+    }
 
 pub passes-then-fails : (orderMod around ≡ true) × (orderMod (emitted 1 around) ≡ false)
 unfolding distance emitted

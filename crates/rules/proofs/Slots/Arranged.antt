@@ -53,10 +53,13 @@ module _ (card : Card) (t : Tables) (w : Whole card t) where
     -- the queues after
     held-after : heldBy (set (t .pairs) p (record { standing = st; queue = endsOf (card .none) Q })) + length F ≡ card .slots
     held-after =
-        omega (arith,
+        omega (
+          arith,
           held-set (t .pairs) p (record { standing = st; queue = endsOf (card .none) Q }) (omega (arith, w .pair-records)),
           length-follow (t .slots) (pairAt (t .pairs) p .queue .first) (pairAt (t .pairs) p .queue .held),
-          as-many, all-slots card t w)
+          as-many,
+          all-slots card t w,
+        )
 
     pub free-after : Spells (card .none) (arranged (card .none) p st Q F s t .slots) (idle (arranged (card .none) p st Q F s t)) F
     unfolding arranged
@@ -81,7 +84,7 @@ module _ (card : Card) (t : Tables) (w : Whole card t) where
     others-after r h d =
         rw (pair-other (t .pairs) p r _ d)
         (spells-apart (card .none) F (F-others r d) (spells-apart (card .none) Q (Q-others r d)
-          (record { first = run .first; last = run .last; held = run .held; linked = linked-same (card .none) (t .slots) s same-links (queue t r) (run .linked); below = rw as-long (run .below) })))
+        (record { first = run .first; last = run .last; held = run .held; linked = linked-same (card .none) (t .slots) s same-links (queue t r) (run .linked); below = rw as-long (run .below) })))
       where
         run : Spells (card .none) (t .slots) (pairAt (t .pairs) r .queue) (queue t r)
         run = w .pairs-run r h
@@ -109,7 +112,7 @@ module _ (card : Card) (t : Tables) (w : Whole card t) where
         packets =
             rw (spelled-is (card .none) (others-after r h d))
             (simp chain-packet (map-on (λ i. slotAt s i .packet) (λ i. slotAt (t .slots) i .packet) (queue t r)
-              (λ i m. same-others i (omega (arith, Q-others r d i)))))
+            (λ i m. same-others i (omega (arith, Q-others r d i)))))
 
     pub pairs-after : length (arranged (card .none) p st Q F s t .pairs) ≡ length (t .pairs)
     unfolding arranged
@@ -133,19 +136,21 @@ module _ (card : Card) (t : Tables) (w : Whole card t) where
         at r h =
             queue-is after r
             ∙ by-test (eqb r p)
-                (λ e. rw (eqb-true r p e) (spelled-is (card .none) pair-after ∙ sym (getD-set-same (queues t) p _ [] (omega (arith, queues-count t, w .pair-records)))))
-                (λ e.
-                  spelled-is (card .none) (others-after r (omega (arith, queues-count after, pairs-after, w .pair-records)) (eqb-false r p e))
-                  ∙ sym (getD-set-other (queues t) p r _ [] (eqb-false r p e) ∙ queue-is t r))
+            (λ e. rw (eqb-true r p e) (spelled-is (card .none) pair-after ∙ sym (getD-set-same (queues t) p _ [] (omega (arith, queues-count t, w .pair-records)))))
+            (λ e.
+            spelled-is (card .none) (others-after r (omega (arith, queues-count after, pairs-after, w .pair-records)) (eqb-false r p e))
+            ∙ sym (getD-set-other (queues t) p r _ [] (eqb-false r p e) ∙ queue-is t r))
 
     pub once-after : (i : ℕ) → i < card .slots → times i (free (arranged (card .none) p st Q F s t) ++ join (queues (arranged (card .none) p st Q F s t))) ≡ 1
     once-after i h =
         rw (queues-after, spelled-is (card .none) free-after)
-        (omega (arith,
+        (omega (
+          arith,
           times-append i F (join (set (queues t) p Q)),
           share i,
           rw (queue-is t p) at (times-join-set i (queues t) p Q (omega (arith, queues-count t, w .pair-records))),
-          rw times-append at (w .once i h)))
+          rw times-append at (w .once i h),
+        ))
 
     -- (6) whole tables stay whole
     pub whole-after : ((st .state ≡ 1 → ⊥) → length Q ≡ 0) → Whole card (arranged (card .none) p st Q F s t)
@@ -157,7 +162,8 @@ module _ (card : Card) (t : Tables) (w : Whole card t) where
           pairs-run = runs;
           free-runs = rw (spelled-is (card .none) free-after) free-after;
           once = once-after;
-          idle-empty = empty }
+          idle-empty = empty;
+        }
       where
         runs : (r : ℕ) → r < card .pairs
             → Spells (card .none) (arranged (card .none) p st Q F s t .slots) (pairAt (arranged (card .none) p st Q F s t .pairs) r .queue) (queue (arranged (card .none) p st Q F s t) r)
@@ -171,8 +177,8 @@ module _ (card : Card) (t : Tables) (w : Whole card t) where
         empty r h n =
             by-test (eqb r p)
             (λ e.
-              rw (eqb-true r p e, pair-same (t .pairs) p _ (omega (arith, w .pair-records)))
-              (idle (rw (eqb-true r p e, pair-same (t .pairs) p _ (omega (arith, w .pair-records))) at n)))
+            rw (eqb-true r p e, pair-same (t .pairs) p _ (omega (arith, w .pair-records)))
+            (idle (rw (eqb-true r p e, pair-same (t .pairs) p _ (omega (arith, w .pair-records))) at n)))
             (λ e.
-              rw (pair-other (t .pairs) p r _ (eqb-false r p e))
-              (w .idle-empty r h (rw (pair-other (t .pairs) p r _ (eqb-false r p e)) at n)))
+            rw (pair-other (t .pairs) p r _ (eqb-false r p e))
+            (w .idle-empty r h (rw (pair-other (t .pairs) p r _ (eqb-false r p e)) at n)))

@@ -57,8 +57,8 @@ module _ (none : ℕ) (s : List Slot) where
       once =
           by-test (ltb 0 (times a l))
           (λ e.
-            let t = tail-at a l (h .1) (b .1) (ltb-true 0 (times a l) e) in
-            absurd (omega (arith, t .shorter, ap length (linked-unique a l (t .rest) h (t .linked) (b .1) (t .below)))))
+          let t = tail-at a l (h .1) (b .1) (ltb-true 0 (times a l) e) in
+          absurd (omega (arith, t .shorter, ap length (linked-unique a l (t .rest) h (t .linked) (b .1) (t .below)))))
           (λ e. omega (arith, ltb-false))
 
   -- two lists that share a slot share their last slot
@@ -73,8 +73,8 @@ module _ (none : ℕ) (s : List Slot) where
   apart-of l m h k b c d i =
       by-test (ltb 0 (times i l))
       (λ e. by-test (ltb 0 (times i m))
-        (λ f. absurd (d (share-last i l m h k b c (ltb-true 0 (times i l) e) (ltb-true 0 (times i m) f))))
-        (λ f. omega (arith, ltb-false, distinct-of l h b i)))
+      (λ f. absurd (d (share-last i l m h k b c (ltb-true 0 (times i l) e) (ltb-true 0 (times i m) f))))
+      (λ f. omega (arith, ltb-false, distinct-of l h b i)))
       (λ e. omega (arith, ltb-false, distinct-of m k c i))
 
 -- ---- n different numbers below n: each of them is there
@@ -162,8 +162,8 @@ in-join i (l ∷ ls) h =
     by-test (ltb 0 (times i l))
     (λ e. (0, omega arith, ltb-true 0 (times i l) e))
     (λ e.
-      let r = in-join i ls (omega (arith, times-append i l (join ls), ltb-false 0 (times i l) e)) in
-      (suc (r .0), suc-le-suc (r .1), r .2))
+    let r = in-join i ls (omega (arith, times-append i l (join ls), ltb-false 0 (times i l) e)) in
+    (suc (r .0), suc-le-suc (r .1), r .2))
 
 module _ (none : ℕ) (s : List Slot) where
   pub distinct-join : (ls : List (List ℕ)) → All (Linked none s) ls → All (Below none) ls → Lasts none ls → Distinct (join ls)
@@ -171,8 +171,8 @@ module _ (none : ℕ) (s : List Slot) where
   distinct-join (l ∷ ls) h b d i =
       by-test (ltb 0 (times i l))
       (λ e. by-test (ltb 0 (times i (join ls)))
-        (λ f. absurd (both (ltb-true 0 (times i l) e) (in-join i ls (ltb-true 0 (times i (join ls)) f))))
-        (λ f. omega (arith, times-append i l (join ls), ltb-false 0 (times i (join ls)) f, distinct-of none s l (h .0) (b .0) i)))
+      (λ f. absurd (both (ltb-true 0 (times i l) e) (in-join i ls (ltb-true 0 (times i (join ls)) f))))
+      (λ f. omega (arith, times-append i l (join ls), ltb-false 0 (times i (join ls)) f, distinct-of none s l (h .0) (b .0) i)))
       (λ e. omega (arith, times-append i l (join ls), ltb-false 0 (times i l) e, distinct-join ls (h .1) (b .1) (d .1) i))
     where
       both : 1 ≤ times i l → (p : ℕ) × (p < length ls) × (1 ≤ times i (getD ls p [])) → ⊥

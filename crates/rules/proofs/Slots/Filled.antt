@@ -60,7 +60,7 @@ filled-packets [] (q ∷ qs) s d b e = absurd (omega arith)
 filled-packets (i ∷ l) [] s d b e = absurd (omega arith)
 filled-packets (i ∷ l) (q ∷ qs) s d b e =
     let rest : map (λ j. slotAt (holding i q (filled l qs s)) j .packet) l ≡ qs =
-      map-on _ (λ j. slotAt (filled l qs s) j .packet) l
-        (λ j m. ap (λ (x : Slot). x .packet) (holding-other i q (filled l qs s) j (λ f. omega (arith, d i, times-same i l, rw f at m))))
-      ∙ filled-packets l qs s (λ j. omega (arith, d j, times-tail j i l)) (b .1) (omega arith) in
+    map-on _ (λ j. slotAt (filled l qs s) j .packet) l
+    (λ j m. ap (λ (x : Slot). x .packet) (holding-other i q (filled l qs s) j (λ f. omega (arith, d i, times-same i l, rw f at m))))
+    ∙ filled-packets l qs s (λ j. omega (arith, d j, times-tail j i l)) (b .1) (omega arith) in
     λ j. holding-same i q (filled l qs s) (rw length-filled (b .0)) j ∷ rest j

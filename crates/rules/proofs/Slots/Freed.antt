@@ -51,12 +51,12 @@ module _ (card : Card) (t : Tables) (w : Whole card t) where
     freed-writes a f b l m ef eq ek =
         freed-slots
         ∙ rw (w .free-runs .last, ef, ek)
-          (hang (card .none) a f b l m (t .slots)
-            (λ i. omega (arith, rw ef at (pair-and-free card t w p i)))
-            (λ i. omega (arith, rw ef at (pair-and-free card t w p i), rw ek at (times-parts i k (queue t p))))
-            (λ i. omega (arith, pair-and-free card t w p i, rw ek at (times-parts i k (queue t p))))
-            (rw ef at (w .free-runs .linked))
-            (rw eq at (w .pairs-run p hp .linked)))
+        (hang (card .none) a f b l m (t .slots)
+        (λ i. omega (arith, rw ef at (pair-and-free card t w p i)))
+        (λ i. omega (arith, rw ef at (pair-and-free card t w p i), rw ek at (times-parts i k (queue t p))))
+        (λ i. omega (arith, pair-and-free card t w p i, rw ek at (times-parts i k (queue t p))))
+        (rw ef at (w .free-runs .linked))
+        (rw eq at (w .pairs-run p hp .linked)))
 
     -- where the free queue is empty, one
     pub freed-writes-empty : (b : ℕ) (l m : List ℕ) → free t ≡ [] → queue t p ≡ (b ∷ l) ++ m → take k (queue t p) ≡ b ∷ l
@@ -64,9 +64,9 @@ module _ (card : Card) (t : Tables) (w : Whole card t) where
     freed-writes-empty b l m ef eq ek =
         freed-slots
         ∙ rw (ef, ek)
-          (chain-front (card .none) b l m (t .slots)
-            (λ i. omega (arith, pair-and-free card t w p i, rw ek at (times-parts i k (queue t p))))
-            (rw eq at (w .pairs-run p hp .linked)))
+        (chain-front (card .none) b l m (t .slots)
+        (λ i. omega (arith, pair-and-free card t w p i, rw ek at (times-parts i k (queue t p))))
+        (rw eq at (w .pairs-run p hp .linked)))
 
     freed-pair : Spells (card .none) (freed (card .none) p st k t .slots) (pairAt (freed (card .none) p st k t .pairs) p .queue) (drop k (queue t p))
     freed-pair = pair-after card t w p hp st (drop k (queue t p)) (free t ++ take k (queue t p)) (t .slots) refl (λ i. refl) (λ i z. refl) freed-share freed-many

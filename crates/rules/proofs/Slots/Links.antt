@@ -133,9 +133,10 @@ module _ (none : ℕ) where
   -- other slots' links do not matter
   pub linked-relinked : (a k : ℕ) (s : List Slot) (m : List ℕ) → times a m ≡ 0 → Linked none s m → Linked none (relinked a k s) m
   linked-relinked a k s [] z h = tt
-  linked-relinked a k s (b ∷ m) z h =
-      (ap (λ (x : Slot). x .link) (link-other a b k s (λ e. times-not-head a b m z (sym e))) ∙ h .0
-      , linked-relinked a k s m (omega (arith, times-tail a b m)) (h .1))
+  linked-relinked a k s (b ∷ m) z h = (
+    ap (λ (x : Slot). x .link) (link-other a b k s (λ e. times-not-head a b m z (sym e))) ∙ h .0,
+    linked-relinked a k s m (omega (arith, times-tail a b m)) (h .1),
+  )
 
   pub linked-apart : (l : List ℕ) (s : List Slot) (m : List ℕ) → Apart l m → Linked none s m → Linked none (chain none l s) m
   linked-apart [] s m d h = h
@@ -146,10 +147,11 @@ module _ (none : ℕ) where
   -- a list's links, once written, are there; and writing what is there changes nothing
   pub linked-chain : (l : List ℕ) (s : List Slot) → Distinct l → Below (length s) l → Linked none (chain none l s) l
   linked-chain [] s d b = tt
-  linked-chain (a ∷ l) s d b =
-      (link-same a (firstOf none l) (chain none l s) (rw length-chain (b .0))
-      , linked-relinked a (firstOf none l) (chain none l s) l (omega (arith, d a, times-same a l))
-          (linked-chain l s (λ i. omega (arith, d i, times-tail i a l)) (b .1)))
+  linked-chain (a ∷ l) s d b = (
+    link-same a (firstOf none l) (chain none l s) (rw length-chain (b .0)),
+    linked-relinked a (firstOf none l) (chain none l s) l (omega (arith, d a, times-same a l))
+        (linked-chain l s (λ i. omega (arith, d i, times-tail i a l)) (b .1)),
+  )
 
   pub chain-linked : (l : List ℕ) (s : List Slot) → Linked none s l → chain none l s ≡ s
   chain-linked [] s h = refl
@@ -172,7 +174,7 @@ module _ (none : ℕ) where
       let z : List Slot = relinked (lastOf none (b ∷ f)) (firstOf none m) (chain none m s) in
       let far : a ≢ lastOf none (b ∷ f) = λ q. omega (arith, d a, times-same a (b ∷ f), rw (← q) at (times-last none b f)) in
       let there : slotAt z a ≡ slotAt s a =
-        link-other _ a _ (chain none m s) far ∙ chain-other m s a (omega (arith, p a, times-same a (b ∷ f))) in
+      link-other _ a _ (chain none m s) far ∙ chain-other m s a (omega (arith, p a, times-same a (b ∷ f))) in
       ap (relinked a b) (chain-join e b f m s (λ i. omega (arith, d i, times-tail i a (b ∷ f))) (λ i. omega (arith, p i, times-tail i a (b ∷ f))) (h .1))
       ∙ ap (λ (k : ℕ). relinked a k z) (sym (ap (λ (x : Slot). x .link) there ∙ h .0))
       ∙ relinked-as-is a z
@@ -213,8 +215,8 @@ module _ (none : ℕ) where
   chain-twice [] m s d = refl
   chain-twice (a ∷ l) m s d =
       ap (relinked a (firstOf none (l ++ m)))
-        (chain-relinked (l ++ m) a (firstOf none l) (chain none l s) (omega (arith, d a, times-same a (l ++ m)))
-          ∙ ap (relinked a (firstOf none l)) (chain-twice l m s (λ i. omega (arith, d i, times-tail i a (l ++ m)))))
+      (chain-relinked (l ++ m) a (firstOf none l) (chain none l s) (omega (arith, d a, times-same a (l ++ m)))
+      ∙ ap (relinked a (firstOf none l)) (chain-twice l m s (λ i. omega (arith, d i, times-tail i a (l ++ m)))))
       ∙ relinked-twice a (firstOf none l) (firstOf none (l ++ m)) (chain none (l ++ m) s)
 
   -- a queue's record and its links

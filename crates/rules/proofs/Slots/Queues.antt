@@ -44,10 +44,12 @@ length-follow s at (suc k) = ap suc (length-follow s _ k)
 pub length-queues : (s : List Slot) (ps : List Pair) → length (join (map (λ q. spelled s (q .queue)) ps)) ≡ heldBy ps
 length-queues s [] = refl
 length-queues s (p ∷ ps) =
-    omega (arith,
+    omega (
+      arith,
       length-append (spelled s (p .queue)) (join (map (λ q. spelled s (q .queue)) ps)),
       length-follow s (p .queue .first) (p .queue .held),
-      length-queues s ps)
+      length-queues s ps,
+    )
 
 pub held-set : (ps : List Pair) (p : ℕ) (x : Pair) → p < length ps → heldBy (set ps p x) + pairAt ps p .queue .held ≡ heldBy ps + x .queue .held
 unfolding pairAt
@@ -63,23 +65,25 @@ module _ (card : Card) (t : Tables) (w : Whole card t) where
   all-below =
       below-append (card .slots) (free t) (join (queues t)) free-below
       (below-join (card .slots) (queues t) (λ p h.
-        rw (queue-is t p) (rw (w .slot-records) at (w .pairs-run p (omega (arith, queues-count t, w .pair-records)) .below))))
+      rw (queue-is t p) (rw (w .slot-records) at (w .pairs-run p (omega (arith, queues-count t, w .pair-records)) .below))))
 
   -- no slot is lost
   pub all-slots : heldBy (t .pairs) + length (free t) ≡ card .slots
   all-slots =
-      omega (arith,
+      omega (
+        arith,
         length-of-once (card .slots) (free t ++ join (queues t)) all-below (w .once),
         length-append (free t) (join (queues t)),
-        length-queues (t .slots) (t .pairs))
+        length-queues (t .slots) (t .pairs),
+      )
 
   -- no number stands twice in all the queues
   pub at-most-once : (i : ℕ) → times i (free t) + times i (join (queues t)) ≤ 1
   at-most-once i =
       rw (← times-append i (free t) (join (queues t)))
       (by-test (ltb i (card .slots))
-        (λ e. omega (arith, w .once i (ltb-true i (card .slots) e)))
-        (λ e. omega (arith, times-below (card .slots) i (free t ++ join (queues t)) all-below (ltb-false i (card .slots) e))))
+      (λ e. omega (arith, w .once i (ltb-true i (card .slots) e)))
+      (λ e. omega (arith, times-below (card .slots) i (free t ++ join (queues t)) all-below (ltb-false i (card .slots) e))))
 
   pub pair-and-free : (p i : ℕ) → times i (free t) + times i (queue t p) ≤ 1
   pair-and-free p i = omega (arith, at-most-once i, rw (queue-is t p) at (times-join-at i (queues t) p))
@@ -93,6 +97,8 @@ module _ (card : Card) (t : Tables) (w : Whole card t) where
   member p i h m =
       by-test (ltb i (card .slots))
       (ltb-true i (card .slots))
-      (λ e. absurd (omega (arith,
+      (λ e. absurd (omega (
+        arith,
         times-below (card .slots) i (free t) free-below (ltb-false i (card .slots) e),
-        times-below (card .slots) i (queue t p) (rw (w .slot-records) at (w .pairs-run p h .below)) (ltb-false i (card .slots) e))))
+        times-below (card .slots) i (queue t p) (rw (w .slot-records) at (w .pairs-run p h .below)) (ltb-false i (card .slots) e),
+      )))

@@ -48,7 +48,7 @@ module _ (card : Card) (t : Tables) (w : Whole card t) where
         old =
             map-on put _ (queue t p)
             (λ i m. ap (λ (x : Slot). x .packet) (filled-other took qs (t .slots) i
-              (omega (arith, pair-and-free card t w p i, times-parts i (length qs) (free t)))))
+            (omega (arith, pair-and-free card t w p i, times-parts i (length qs) (free t)))))
 
         new : map put took ≡ qs
         new =
@@ -93,7 +93,7 @@ module _ (card : Card) (t : Tables) (w : Whole card t) where
     stored-slots =
         chain-linked (card .none) (drop (length qs) (free t)) (chain (card .none) (queue t p ++ took) (filled took qs (t .slots)))
         (linked-apart (card .none) (queue t p ++ took) (filled took qs (t .slots)) (drop (length qs) (free t)) (λ i. omega (arith, stored-share i, pair-and-free card t w p i))
-          (linked-put (drop (length qs) (free t)) (linked-drop (card .none) (length qs) (t .slots) (free t) (w .free-runs .linked))))
+        (linked-put (drop (length qs) (free t)) (linked-drop (card .none) (length qs) (t .slots) (free t) (w .free-runs .linked))))
 
     -- and of those links only two, if the pair holds some: its last leads to the first taken, whose last leads nowhere
     pub stored-writes : (a : ℕ) (f : List ℕ) (b : ℕ) (l : List ℕ) → queue t p ≡ a ∷ f → take (length qs) (free t) ≡ b ∷ l
@@ -102,12 +102,12 @@ module _ (card : Card) (t : Tables) (w : Whole card t) where
     stored-writes a f b l eq ek =
         stored-slots
         ∙ rw (w .pairs-run p hp .last, eq, ek)
-          (hang (card .none) a f b l (drop (length qs) (free t)) (filled (b ∷ l) qs (t .slots))
-            (λ i. omega (arith, rw eq at (pair-and-free card t w p i)))
-            (λ i. omega (arith, rw eq at (pair-and-free card t w p i), rw ek at (times-parts i (length qs) (free t))))
-            (λ i. omega (arith, pair-and-free card t w p i, rw ek at (times-parts i (length qs) (free t))))
-            (rw (eq, ek) at (linked-put (queue t p) (w .pairs-run p hp .linked)))
-            (rw ek at (linked-put (took ++ drop (length qs) (free t)) (rw (take-append-drop (length qs) (free t)) (w .free-runs .linked)))))
+        (hang (card .none) a f b l (drop (length qs) (free t)) (filled (b ∷ l) qs (t .slots))
+        (λ i. omega (arith, rw eq at (pair-and-free card t w p i)))
+        (λ i. omega (arith, rw eq at (pair-and-free card t w p i), rw ek at (times-parts i (length qs) (free t))))
+        (λ i. omega (arith, pair-and-free card t w p i, rw ek at (times-parts i (length qs) (free t))))
+        (rw (eq, ek) at (linked-put (queue t p) (w .pairs-run p hp .linked)))
+        (rw ek at (linked-put (took ++ drop (length qs) (free t)) (rw (take-append-drop (length qs) (free t)) (w .free-runs .linked)))))
 
     -- where it holds none, one
     pub stored-writes-empty : (b : ℕ) (l : List ℕ) → queue t p ≡ [] → take (length qs) (free t) ≡ b ∷ l
@@ -116,6 +116,6 @@ module _ (card : Card) (t : Tables) (w : Whole card t) where
     stored-writes-empty b l eq ek =
         stored-slots
         ∙ rw (eq, ek)
-          (chain-front (card .none) b l (drop (length qs) (free t)) (filled (b ∷ l) qs (t .slots))
-            (λ i. omega (arith, pair-and-free card t w p i, rw ek at (times-parts i (length qs) (free t))))
-            (rw ek at (linked-put (took ++ drop (length qs) (free t)) (rw (take-append-drop (length qs) (free t)) (w .free-runs .linked)))))
+        (chain-front (card .none) b l (drop (length qs) (free t)) (filled (b ∷ l) qs (t .slots))
+        (λ i. omega (arith, pair-and-free card t w p i, rw ek at (times-parts i (length qs) (free t))))
+        (rw ek at (linked-put (took ++ drop (length qs) (free t)) (rw (take-append-drop (length qs) (free t)) (w .free-runs .linked)))))

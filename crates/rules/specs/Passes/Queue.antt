@@ -27,7 +27,8 @@ step slots t w i =
     record {
       trail = trailStep slots (w .trail) i;
       course = courseStep (t .settings) (t .line) (w .course) (i .packet);
-      stage = stageStep (t .settings) (w .stage) (i .packet) }
+      stage = stageStep (t .settings) (w .stage) (i .packet);
+    }
 
 -- k slots, by the links
 abbrev pub walked : Standing → List Slot → Walk → ℕ → Walk

@@ -40,7 +40,8 @@ alone p =
       length = p .length;
       address = p .address;
       key = p .key;
-      value = p .value }
+      value = p .value;
+    }
 
 -- a read or an Only
 unfoldable pub single : Settings → Packet → Bool
@@ -65,7 +66,8 @@ heading p =
       length = p .total;
       address = p .address;
       key = p .key;
-      value = 0 }
+      value = 0;
+    }
 
 -- a First
 unfoldable pub opens : Settings → Packet → Bool
@@ -82,7 +84,8 @@ opened p =
       address = p .address;
       total = p .total;
       first = p .psn;
-      count = 1 }
+      count = 1;
+    }
 
 -- the first record of a message
 abbrev pub newMessage : Settings → Packet → Stage
@@ -100,7 +103,8 @@ postOf w immediate length value =
       length = length;
       address = w .address;
       key = 0;
-      value = value }
+      value = value;
+    }
 
 -- after one more Middle
 abbrev pub more : Begun → Begun
@@ -113,7 +117,8 @@ more w =
       address = w .address;
       total = w .total;
       first = w .first;
-      count = suc (w .count) }
+      count = suc (w .count);
+    }
 
 -- the Middle that may stand here
 abbrev pub middle : Settings → Begun → Packet
@@ -158,7 +163,8 @@ behind s p =
       address = 0;
       total = 0;
       first = plus (p .psn) (psns - 1);
-      count = 1 }
+      count = 1;
+    }
 
 -- the first record of a rear part
 abbrev pub rearStep : Settings → Packet → Stage
