@@ -4,16 +4,15 @@ use mathlib.Core.Bool.{false}
 use mathlib.Core.List.{List, [], _∷_}
 use Prim.Native.Nat.{_<_}
 use native.Mathlib.Omega.{arith}
+use Rattle.refusal.specs.Choice.{Each}
 use Rattle.refusal.specs.Refusals.{Line, firstGiven}
 use Rattle.refusal.proofs.Cases.{by-test}
 
 abbrev pub NoneHolds : List Line → Type 0
-NoneHolds [] = Unit {0}
-NoneHolds (l ∷ ls) = (l .holds ≡ false) × NoneHolds ls
+NoneHolds ls = Each (λ (l : Line). l .holds ≡ false) ls
 
 abbrev pub Numbered : List Line → Type 0
-Numbered [] = Unit {0}
-Numbered (l ∷ ls) = (0 < l .number) × Numbered ls
+Numbered ls = Each (λ (l : Line). 0 < l .number) ls
 
 -- no line gives 0: if 0 comes out, none holds
 pub none-given : (ls : List Line) → Numbered ls → firstGiven ls ≡ 0 → NoneHolds ls

@@ -1,3 +1,4 @@
 pub mod Below
 pub mod Cases
 pub mod Given
+pub mod Each

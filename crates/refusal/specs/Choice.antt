@@ -1,4 +1,4 @@
--- What every definition above is written with: a choice by a test, one of some tests, one of some numbers.
+-- What every definition above is written with: a choice by a test, one of some tests, one of some numbers, each of a list.
 -- Assumes nothing.
 use mathlib.Core.Bool.{Bool, false, cond, _||_}
 use mathlib.Core.List.{List, [], _∷_}
@@ -19,3 +19,8 @@ anyOf (t ∷ ts) = t || anyOf ts
 abbrev pub among : ℕ → List ℕ → Bool
 among n [] = false
 among n (k ∷ ks) = eqb n k || among n ks
+
+-- P holds of each
+abbrev pub Each : {A : Type 0} → (A → Type 0) → List A → Type 0
+Each P [] = Unit {0}
+Each P (x ∷ xs) = P x × Each P xs

@@ -5,6 +5,7 @@ use mathlib.Core.List.{List, [], _∷_, _++_}
 use Prim.Native.Nat.{ℕ, _≤_, _<_}
 use lib.ListN.{length}
 use Rattle.psn.specs.Psn.{psns}
+use Rattle.refusal.specs.Choice.{Each}
 use Rattle.rules.specs.declared.Packet.{Packet}
 use Rattle.rules.specs.Card.{Card}
 use Rattle.rules.specs.Account.{Side, U, X, H, N, ready, ended}
@@ -14,11 +15,6 @@ use Rattle.rules.specs.Slots.{Tables, pairAt, queue, queues, idle, free,
 use Rattle.rules.specs.Pool.{claimed, claims}
 use Rattle.rules.specs.Order.{Ordered}
 use Rattle.rules.specs.Messages.{Remaining}
-
--- every packet of a list
-abbrev pub Each : (Packet → Type 0) → List Packet → Type 0
-Each P [] = Unit {0}
-Each P (p ∷ ps) = P p × Each P ps
 
 -- "the tables have 64 and 256 records; each queue runs by its links from its first end to its last ..; each slot is in one pair's queue or the free queue,
 -- once; closed and ended pairs hold none; held counts are true"
@@ -37,7 +33,7 @@ pub record Bounded (card : Card) (s : Side) : Type 0 where
   pub x-low : X s < psns
   pub h-low : H s < psns
   pub n-low : N s < psns
-  pub packets-low : Each (λ p. p .psn < psns) (s .packets)
+  pub packets-low : Each (λ (p : Packet). p .psn < psns) (s .packets)
   pub retries : s .standing .clock .retries ≤ s .standing .settings .retry
   pub rnrs : s .standing .clock .rnrs ≤ s .standing .settings .rnr
   pub held : length (s .packets) ≤ s .standing .settings .ceiling

@@ -3,11 +3,11 @@ use mathlib.Core.Path.{_≡_}
 use mathlib.Core.Bool.{true}
 use Prim.Native.Nat.{ℕ, _≤_, _<_}
 use Rattle.psn.specs.Psn.{distance}
+use Rattle.refusal.specs.Choice.{Each}
 use Rattle.rules.specs.declared.Packet.{Packet}
 use Rattle.rules.specs.Account.{U}
 use Rattle.rules.specs.Message.{isRead}
 use Rattle.rules.specs.Slots.{Tables, slotAt, queue, free, times, side}
-use Rattle.rules.specs.Audit.{Each}
 
 -- a packet after R, and one up to R, by distance from u
 abbrev pub After : ℕ → ℕ → Packet → Type 0

@@ -48,11 +48,11 @@ unfoldable pub badPost : Post → Bool
 badPost m = anyOf (postFaults m)
 
 -- "Emit: budget 1 to 64."
-abbrev pub budgets : ℕ
-budgets = 64
+abbrev pub largestBudget : ℕ
+largestBudget = 64
 
 abbrev pub badBudget : ℕ → Bool
-badBudget n = ltb n 1 || ltb budgets n
+badBudget n = ltb n 1 || ltb largestBudget n
 
 -- a syndrome's top three bits and its low five: 000 ACK, 001 RNR, 011 NAK, of codes 0 to 3
 abbrev pub topBits : ℕ → ℕ

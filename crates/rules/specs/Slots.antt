@@ -4,7 +4,7 @@ use mathlib.Core.List.{List, [], _∷_, _++_, map}
 use Prim.Native.Nat.{ℕ, zero, suc, _+_, _-_, _<_}
 use lib.Dec.{eqb}
 use lib.ListN.{length, getD, set, take, drop, replicate}
-use Rattle.refusal.specs.Choice.{if_then_else_}
+use Rattle.refusal.specs.Choice.{if_then_else_, Each}
 use Rattle.rules.specs.declared.Packet.{Packet}
 use Rattle.rules.specs.declared.Standing.{Standing}
 use Rattle.rules.specs.declared.Queue.{Queue}
@@ -101,8 +101,7 @@ filled (i ∷ l) (q ∷ qs) s = holding i q (filled l qs s)
 
 -- every number of the list is below n
 abbrev pub Below : ℕ → List ℕ → Type 0
-Below n [] = Unit {0}
-Below n (a ∷ l) = (a < n) × Below n l
+Below n l = Each (λ (a : ℕ). a < n) l
 
 module _ (none : ℕ) where
   -- "256 stands for no slot, in a last link and at an empty queue's ends"

@@ -7,6 +7,7 @@ use Prim.Native.Nat.{ℕ, _≤_}
 use native.Mathlib.Omega.{arith}
 use lib.Dec.{eqb}
 use lib.ListN.{length}
+use Rattle.refusal.specs.Choice.{Each}
 use Rattle.refusal.proofs.Cases.{by-test, if-case}
 use Rattle.rules.specs.declared.Reply.the-variants.{Refused}
 use Rattle.rules.specs.Card.{Card}
@@ -48,8 +49,7 @@ module _ (card : Card) (t : Tables) (n : ℕ) where
 
 -- the numbers of the lines
 abbrev Low : List Line → Type 0
-Low [] = Unit {0}
-Low (l ∷ ls) = (l .number ≤ 9) × Low ls
+Low ls = Each (λ (l : Line). l .number ≤ 9) ls
 
 given-low : (ls : List Line) → Low ls → firstGiven ls ≤ 9
 given-low [] h = omega arith

@@ -8,6 +8,7 @@ use native.Mathlib.Nat.{not-suc-le-zero}
 use lib.Dec.{eqb, ltb, leb}
 use borrow.Author.Tests.{ltb-true, ltb-false, lt-ltb, leb-false, eqb-true, eqb-false, not-false}
 use lib.ListN.{take, drop}
+use Rattle.refusal.specs.Choice.{Each}
 use Rattle.refusal.proofs.Cases.{by-test, if-case, or-left}
 use Rattle.rules.specs.declared.Packet.{Packet}
 use Rattle.rules.specs.declared.Standing.{Standing}
@@ -24,7 +25,7 @@ use Rattle.rules.specs.Ranges.{badPsn}
 use Rattle.rules.specs.Slots.{Tables, slotAt, free, queue, times, sideOf, side, sides, freed}
 use Rattle.rules.specs.Order.{_or_, left, right}
 use Rattle.rules.proofs.Sides.InOrder.{RunsLow, InOrder, audited-order}
-use Rattle.rules.specs.Audit.{Audit, Each}
+use Rattle.rules.specs.Audit.{Audit}
 use Rattle.rules.specs.Passes.Tables.{passes}
 use Rattle.rules.proofs.Passes.Decided.{sound}
 use Rattle.rules.specs.Requests.{acknowledging, on}

@@ -9,6 +9,7 @@ use native.Mathlib.Nat.{add-zero}
 use lib.Dec.{eqb, ltb, leb}
 use borrow.Author.Tests.{ltb-true, ltb-false}
 use lib.ListN.{take, drop}
+use Rattle.refusal.specs.Choice.{Each}
 use Rattle.refusal.proofs.Cases.{by-test, if-case, or-left}
 use Rattle.rules.specs.declared.Packet.{Packet}
 use Rattle.rules.specs.declared.Answer.{Answer}
@@ -23,7 +24,7 @@ use Rattle.rules.specs.Release.{release}
 use Rattle.rules.specs.Acknowledge.{inside, acknowledge}
 use Rattle.rules.specs.Slots.{Tables, slotAt, queue, times, sideOf, side, sides}
 use Rattle.rules.proofs.Sides.InOrder.{InOrder, audited-order}
-use Rattle.rules.specs.Audit.{Audit, Each}
+use Rattle.rules.specs.Audit.{Audit}
 use Rattle.rules.specs.Passes.Tables.{passes}
 use Rattle.rules.proofs.Passes.Decided.{sound}
 use Rattle.rules.specs.Requests.{acknowledging, on}

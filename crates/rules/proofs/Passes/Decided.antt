@@ -9,6 +9,8 @@ use native.Mathlib.Nat.{not-suc-le-zero, le-of-suc-le-suc}
 use lib.Dec.{eqb}
 use borrow.Author.Tests.{eqb-true, eq-eqb}
 use lib.ListN.{length}
+use Rattle.refusal.specs.Choice.{Each}
+use Rattle.refusal.proofs.Each.{each-append, each-so}
 use Rattle.refusal.proofs.Cases.{by-test}
 use Rattle.rules.specs.declared.Pair.{Pair}
 use Rattle.rules.specs.declared.Queue.{Queue}
@@ -31,27 +33,26 @@ use Rattle.rules.proofs.Passes.Tests.{both, joined}
 use Rattle.rules.proofs.Passes.Links.{spells-passes}
 use Rattle.rules.proofs.Passes.Pair.{Right, pair-passes}
 use Rattle.rules.proofs.Passes.Bits.{has-none, none-room}
-use Rattle.rules.proofs.Passes.Tally.{Each, each-map, Passed, total, asked, New, Counted, counted, adds, tally-more, step-ok}
+use Rattle.rules.proofs.Passes.Tally.{Passed, total, asked, New, Counted, counted, adds, tally-more, step-ok}
 use Rattle.rules.proofs.Passes.Lists.{lists, Runs, all-linked, all-below, join-below, join-length, lasts-of, last-low, differ-of, times-more}
 
 -- ---- each pair by its number, and the last entry
 
 module _ (f : Pair → Entry) (P : Entry → Type 0) where
-  each-at : (ps : List Pair) → Each P (map f ps) → (p : ℕ) → p < length ps → P (f (pairAt ps p))
+  at-pair : (ps : List Pair) → Each P (map f ps) → (p : ℕ) → p < length ps → P (f (pairAt ps p))
   unfolding pairAt
-  each-at [] h p l = absurd (not-suc-le-zero l)
-  each-at (x ∷ ps) h zero l = h .0
-  each-at (x ∷ ps) h (suc p) l = each-at ps (h .1) p (le-of-suc-le-suc l)
+  at-pair [] h p l = absurd (not-suc-le-zero l)
+  at-pair (x ∷ ps) h zero l = h .0
+  at-pair (x ∷ ps) h (suc p) l = at-pair ps (h .1) p (le-of-suc-le-suc l)
 
-  each-of : (ps : List Pair) → ((p : ℕ) → p < length ps → P (f (pairAt ps p))) → Each P (map f ps)
+  of-pairs : (ps : List Pair) → ((p : ℕ) → p < length ps → P (f (pairAt ps p))) → Each P (map f ps)
   unfolding pairAt
-  each-of [] h = tt
-  each-of (x ∷ ps) h = (h 0 (omega arith), each-of ps (λ p l. h (suc p) (suc-le-suc l)))
+  of-pairs [] h = tt
+  of-pairs (x ∷ ps) h = (h 0 (omega arith), of-pairs ps (λ p l. h (suc p) (suc-le-suc l)))
 
 module _ (P : Entry → Type 0) where
   each-more : (es : List Entry) (e : Entry) → Each P es → P e → Each P (es ++ (e ∷ []))
-  each-more [] e h k = (k, tt)
-  each-more (x ∷ es) e h k = (h .0, each-more es e (h .1) k)
+  each-more es e h k = each-append P es (e ∷ []) h (k, tt)
 
   each-front : (es : List Entry) (e : Entry) → Each P (es ++ (e ∷ [])) → Each P es
   each-front [] e h = tt
@@ -125,10 +126,10 @@ module _ (card : Card) (t : Tables) where
   runs-of : Each Passed entries → Each (Runs (card .none) (t .slots)) entries
   runs-of h =
       each-more (Runs (card .none) (t .slots)) ofPairs ofFree
-      (each-of (entryOf card (t .slots)) (Runs (card .none) (t .slots)) (t .pairs)
+      (of-pairs (entryOf card (t .slots)) (Runs (card .none) (t .slots)) (t .pairs)
       (λ p l.
       pair-passes card (t .slots) (pairAt (t .pairs) p) .0
-      (each-at (entryOf card (t .slots)) Passed (t .pairs) (each-front Passed ofPairs ofFree h) p l) .spells))
+      (at-pair (entryOf card (t .slots)) Passed (t .pairs) (each-front Passed ofPairs ofFree h) p l) .spells))
       (spells-passes (card .none) (t .slots) (idle t) .0 (each-back Passed ofPairs ofFree h))
 
   pub sound : passes card t ≡ true → Audit card t
@@ -170,7 +171,7 @@ module _ (card : Card) (t : Tables) where
       right : (p : ℕ) → p < card .pairs → Right card (t .slots) (pairAt (t .pairs) p)
       right p l =
           pair-passes card (t .slots) (pairAt (t .pairs) p) .0
-          (each-at (entryOf card (t .slots)) Passed (t .pairs) (each-front Passed ofPairs ofFree (c .passed)) p (rw np l))
+          (at-pair (entryOf card (t .slots)) Passed (t .pairs) (each-front Passed ofPairs ofFree (c .passed)) p (rw np l))
 
       held-of : (p : ℕ) → length (side t p .packets) ≡ pairAt (t .pairs) p .queue .held
       held-of p = held-is t p
@@ -220,7 +221,7 @@ module _ (card : Card) (t : Tables) where
       passed : Each Passed entries
       passed =
           each-more Passed ofPairs ofFree
-          (each-of (entryOf card (t .slots)) Passed (t .pairs)
+          (of-pairs (entryOf card (t .slots)) Passed (t .pairs)
           (λ p l.
           let k : p < card .pairs = omega (arith, np, l) in
           pair-passes card (t .slots) (pairAt (t .pairs) p) .1 (record { spells = a .whole .pairs-run p k; good = good p k })))
@@ -240,7 +241,7 @@ module _ (card : Card) (t : Tables) where
 
       new : Each (New (card .slots) (tallyFrom (card .slots) .words)) entries
       new =
-          each-map (Runs (card .none) (t .slots)) (New (card .slots) (tallyFrom (card .slots) .words))
+          each-so (Runs (card .none) (t .slots)) (New (card .slots) (tallyFrom (card .slots) .words))
           (λ e k h. (omega (arith, ns, last-low (card .none) (t .slots) e k h), has-none (card .slots) (e .queue .last))) entries runs
 
       all : tallied (card .slots) (tallyFrom (card .slots)) entries .ok ≡ true

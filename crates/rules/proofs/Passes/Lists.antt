@@ -7,14 +7,15 @@ use native.Mathlib.Nat.{not-suc-le-zero, le-of-suc-le-suc}
 use lib.Dec.{eqb}
 use borrow.Author.Tests.{eqb-true, eqb-false}
 use lib.ListN.{length, length-append}
+use Rattle.refusal.specs.Choice.{Each}
 use Rattle.refusal.proofs.Cases.{by-test}
 use Rattle.rules.specs.declared.Slot.{Slot}
 use Rattle.rules.specs.Slots.{spelled, times, join, Below, lastOf, Linked, Spells}
 use Rattle.rules.specs.Passes.Tables.{Entry}
 use Rattle.rules.proofs.Slots.Links.{times-append, times-last, times-other, below-append}
 use Rattle.rules.proofs.Slots.Queues.{length-follow}
-use Rattle.rules.proofs.Slots.Disjoint.{All, NoLast, Lasts}
-use Rattle.rules.proofs.Passes.Tally.{Each, NotLast, Differ, total}
+use Rattle.rules.proofs.Slots.Disjoint.{NoLast, Lasts}
+use Rattle.rules.proofs.Passes.Tally.{NotLast, Differ, total}
 
 module _ (none : ℕ) (s : List Slot) where
   abbrev pub list : Entry → List ℕ
@@ -26,7 +27,7 @@ module _ (none : ℕ) (s : List Slot) where
   abbrev pub Runs : Entry → Type 0
   Runs e = Spells none s (e .queue) (list e)
 
-  pub all-linked : (es : List Entry) → Each Runs es → All (Linked none s) (lists es)
+  pub all-linked : (es : List Entry) → Each Runs es → Each (Linked none s) (lists es)
   all-linked [] h = tt
   all-linked (e ∷ es) h = (h .0 .linked, all-linked es (h .1))
 
@@ -34,7 +35,7 @@ module _ (none : ℕ) (s : List Slot) where
   below-up a b h [] k = tt
   below-up a b h (i ∷ l) k = (omega (arith, k .0), below-up a b h l (k .1))
 
-  pub all-below : length s ≤ none → (es : List Entry) → Each Runs es → All (Below none) (lists es)
+  pub all-below : length s ≤ none → (es : List Entry) → Each Runs es → Each (Below none) (lists es)
   all-below h [] k = tt
   all-below h (e ∷ es) k = (below-up (length s) none h (list e) (k .0 .below), all-below h es (k .1))
 

@@ -8,6 +8,7 @@ use native.Mathlib.Omega.{arith}
 use lib.Dec.{eqb}
 use borrow.Author.Tests.{eqb-true, eqb-false}
 use lib.ListN.{length, length-map}
+use Rattle.refusal.specs.Choice.{Each}
 use Rattle.refusal.proofs.Cases.{by-test}
 use Rattle.psn.specs.Psn.{psns}
 use Rattle.rules.specs.declared.Packet.{Packet}
@@ -20,7 +21,6 @@ use Rattle.rules.specs.Message.{span}
 use Rattle.rules.specs.Slots.{slotAt, spelled, sideOf, Spells}
 use Rattle.rules.proofs.Sides.InOrder.{RunsLow, StartsLow}
 use Rattle.rules.specs.Messages.{Remaining, none-left}
-use Rattle.rules.specs.Audit.{Each}
 use Rattle.rules.specs.Passes.Record.{recordPasses}
 use Rattle.rules.specs.Passes.Tables.{pairPasses}
 use Rattle.rules.proofs.Slots.Queues.{length-follow}

@@ -7,6 +7,7 @@ use native.Mathlib.Omega.{arith}
 use lib.Dec.{eqb}
 use borrow.Author.Tests.{ltb-true, leb-true, eqb-true, eqb-false, eq-eqb, ne-eqb, lt-ltb, le-leb, not-true}
 use lib.ListN.{length}
+use Rattle.refusal.specs.Choice.{Each}
 use Rattle.refusal.proofs.Cases.{by-test}
 use Rattle.psn.specs.Psn.{psns}
 use Rattle.rules.specs.declared.Packet.{Packet}
@@ -15,7 +16,7 @@ use Rattle.rules.specs.Card.{Card}
 use Rattle.rules.specs.Ranges.{badSettings}
 use Rattle.rules.specs.Account.{Side}
 use Rattle.rules.specs.Timer.{timeoutOf}
-use Rattle.rules.specs.Audit.{Each, Bounded, longestHold, Timed}
+use Rattle.rules.specs.Audit.{Bounded, longestHold, Timed}
 use Rattle.rules.specs.Passes.Record.{boundTests, timedTests, recordPasses}
 use Rattle.rules.specs.Passes.Tests.{allOf}
 use Rattle.rules.proofs.Ranges.{InRange, in-range}

@@ -8,26 +8,14 @@ use native.Mathlib.Omega.{arith}
 use lib.Dec.{eqb}
 use borrow.Author.Tests.{ltb-true, eqb-true, eqb-false, eq-eqb, ne-eqb, lt-ltb, leb-true, le-leb, not-true}
 use lib.ListN.{length}
+use Rattle.refusal.proofs.Each.{each-so, each-both}
 use Rattle.rules.specs.declared.carried.Tally.{Tally}
-use Rattle.refusal.specs.Choice.{if_then_else_}
+use Rattle.refusal.specs.Choice.{if_then_else_, Each}
 use Rattle.rules.specs.Passes.Tests.{_and_}
 use Rattle.rules.specs.Passes.Tables.{has, put, Entry, failed, addClaim, addQueue, isNew, tallyFits, tallyStep, tallied}
 use Rattle.refusal.proofs.Cases.{by-test}
 use Rattle.rules.proofs.Passes.Tests.{both, joined}
 use Rattle.rules.proofs.Passes.Bits.{has-put-same, has-put-other, length-put}
-
--- P holds of each
-abbrev pub Each : (Entry → Type 0) → List Entry → Type 0
-Each P [] = Unit {0}
-Each P (e ∷ es) = P e × Each P es
-
-pub each-map : (P Q : Entry → Type 0) → ((e : Entry) → P e → Q e) → (es : List Entry) → Each P es → Each Q es
-each-map P Q f [] h = tt
-each-map P Q f (e ∷ es) h = (f e (h .0), each-map P Q f es (h .1))
-
-pub each-both : (P Q R : Entry → Type 0) → ((e : Entry) → P e → Q e → R e) → (es : List Entry) → Each P es → Each Q es → Each R es
-each-both P Q R f [] h k = tt
-each-both P Q R f (e ∷ es) h k = (f e (h .0) (k .0), each-both P Q R f es (h .1) (k .1))
 
 abbrev pub Passed : Entry → Type 0
 Passed e = e .passed ≡ true
@@ -136,8 +124,8 @@ module _ (slots : ℕ) where
           let out = not-true (has (t .words) (e .queue .last)) (both n .1) in
           record {
             passed = (ready, c .passed);
-            new = (λ _. (l, out), each-map (New (put (t .words) z)) (New (t .words)) (new-before (t .words) z l big out) es (c .new));
-            differ = (λ _. each-map (New (put (t .words) z)) (NotLast z) (new-other (t .words) z l big out) es (c .new), c .differ);
+            new = (λ _. (l, out), each-so (New (put (t .words) z)) (New (t .words)) (new-before (t .words) z l big out) es (c .new));
+            differ = (λ _. each-so (New (put (t .words) z)) (NotLast z) (new-other (t .words) z l big out) es (c .new), c .differ);
             held = ap (λ (x : Tally). x .held) q ∙ c .held ∙ omega arith;
             claimed = ap (λ (x : Tally). x .claimed) q ∙ c .claimed ∙ omega arith;
             room = λ _. omega (arith, c .room room);

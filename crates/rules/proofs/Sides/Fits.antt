@@ -9,8 +9,9 @@ use lib.Pow.{pow-pos}
 use lib.Dec.{eqb, ltb}
 use borrow.Author.Tests.{ltb-true, eqb-true, eqb-false}
 use lib.ListN.{length, drop, length-map}
+use Rattle.refusal.proofs.Each.{each-append, each-drop}
 use Rattle.refusal.proofs.Cases.{by-test, if-case}
-use Rattle.refusal.specs.Choice.{if_then_else_}
+use Rattle.refusal.specs.Choice.{if_then_else_, Each}
 use Rattle.rules.specs.declared.Packet.{Packet}
 use Rattle.rules.specs.declared.Settings.{Settings}
 use Rattle.rules.specs.declared.Standing.{Standing}
@@ -25,13 +26,11 @@ use Rattle.rules.specs.Slots.{Tables, slotAt, pairAt, spelled, sideOf, s
 use Rattle.rules.specs.Pool.{Claim, claimOf, claims}
 use Rattle.rules.specs.Order.{_or_, left, right}
 use Rattle.rules.specs.Messages.{Allowed, Messages, no-more, message, Remaining, none-left, rear}
-use Rattle.rules.specs.Audit.{Each}
 use Rattle.psn.proofs.Laws.{distance-same}
 use Rattle.rules.proofs.Slots.Queues.{length-follow}
 use Rattle.rules.proofs.Ranges.{Permitted, permitted}
 use Rattle.rules.proofs.Sides.Order.{span-pos}
 use Rattle.rules.proofs.Sides.Posted.{no-read}
-use Rattle.rules.proofs.Sides.Good.{each-append, each-drop}
 
 -- ---- the claims, off the pair records alone
 

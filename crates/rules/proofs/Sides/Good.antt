@@ -9,6 +9,8 @@ use lib.Pow.{pow-pos, pow-mono}
 use lib.Dec.{eqb}
 use borrow.Author.Tests.{ltb-true, eqb-false, ne-eqb}
 use lib.ListN.{length, getD, drop, length-drop, length-append, length-map}
+use Rattle.refusal.specs.Choice.{Each}
+use Rattle.refusal.proofs.Each.{each-append, each-drop, each-at, each-map}
 use Rattle.refusal.proofs.Cases.{by-test, if-case, or-left}
 use Rattle.rules.specs.declared.Packet.{Packet}
 use Rattle.rules.specs.declared.Settings.{Settings}
@@ -29,7 +31,7 @@ use Rattle.rules.specs.Pool.{claimOf}
 use Rattle.rules.specs.Order.{_or_, left, right}
 use Rattle.rules.proofs.Sides.InOrder.{InOrder}
 use Rattle.rules.specs.Messages.{Allowed, Messages, no-more, message, Remaining, none-left, rear}
-use Rattle.rules.specs.Audit.{Each, Bounded, Timed}
+use Rattle.rules.specs.Audit.{Bounded, Timed}
 use Rattle.psn.proofs.Laws.{distance-same}
 use Rattle.rules.proofs.Ranges.{in-range, permitted}
 use Rattle.rules.proofs.Sides.Order.{ahead-most, packets-pos}
@@ -40,27 +42,6 @@ use Rattle.rules.proofs.Sides.Response.{fine-response}
 use Rattle.rules.proofs.Sides.Timer.{fine-timer}
 use Rattle.rules.proofs.Sides.Emitted.{ordered-emitted}
 use Rattle.rules.proofs.Sides.Times.{Lows, Timely, timely-acknowledge, timely-response, timely-timer}
-
--- ---- every packet of a list
-
-module _ (P : Packet → Type 0) where
-  pub each-append : (l m : List Packet) → Each P l → Each P m → Each P (l ++ m)
-  each-append [] m h k = k
-  each-append (p ∷ l) m h k = (h .0, each-append l m (h .1) k)
-
-  pub each-drop : (k : ℕ) (l : List Packet) → Each P l → Each P (drop k l)
-  each-drop zero l h = h
-  each-drop (suc k) [] h = tt
-  each-drop (suc k) (p ∷ l) h = each-drop k l (h .1)
-
-  pub each-at : (l : List Packet) (i : ℕ) (d : Packet) → Each P l → i < length l → P (getD l i d)
-  each-at [] i d h b = absurd (not-suc-le-zero b)
-  each-at (p ∷ l) zero d h b = h .0
-  each-at (p ∷ l) (suc i) d h b = each-at l i d (h .1) (le-of-suc-le-suc b)
-
-  pub each-map : (f : ℕ → Packet) (l : List ℕ) → ((i : ℕ) → P (f i)) → Each P (map f l)
-  each-map f [] h = tt
-  each-map f (i ∷ l) h = (h i, each-map f l h)
 
 abbrev Low : Packet → Type 0
 Low p = p .psn < psns

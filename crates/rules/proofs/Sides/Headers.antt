@@ -7,7 +7,8 @@ use native.Mathlib.Omega.{arith}
 use lib.Dec.{eqb, ltb}
 use borrow.Author.Tests.{eqb-false, le-ltb, lt-leb, le-leb}
 use lib.ListN.{drop, replicate}
-use Rattle.refusal.specs.Choice.{if_then_else_}
+use Rattle.refusal.proofs.Each.{each-append, each-drop, each-map, each-both}
+use Rattle.refusal.specs.Choice.{if_then_else_, Each}
 use Rattle.refusal.proofs.Cases.{if-case}
 use Rattle.psn.specs.Psn.{psns, distance, before}
 use Rattle.wire.specs.declared.Size.the-variants.{Length}
@@ -25,9 +26,8 @@ use Rattle.rules.specs.Message.{psnsFor, opcodeAt, readRequest, packetAt
 use Rattle.rules.specs.Emission.{ends, waiting, sent, padFor, headerOf}
 use Rattle.rules.specs.Slots.{Tables, side}
 use Rattle.rules.specs.Messages.{Messages, no-more, message, Remaining, none-left, rear}
-use Rattle.rules.specs.Audit.{Each, Audit}
+use Rattle.rules.specs.Audit.{Audit}
 use Rattle.rules.proofs.Ranges.{in-range, permitted}
-use Rattle.rules.proofs.Sides.Good.{each-append, each-drop, each-map}
 
 -- "emission's pad fills the payload to a multiple of 4"
 pub pad-fills : (n : ℕ) → (n + padFor n) % 4 ≡ 0
@@ -108,10 +108,6 @@ module _ (t : Standing) (far : t .settings .far < psns) (u-low : t .line .u < ps
       }
 
 -- ---- what an audited pair emits
-
-each-both : (P Q R : Packet → Type 0) → ((p : Packet) → P p → Q p → R p) → (l : List Packet) → Each P l → Each Q l → Each R l
-each-both P Q R f [] a b = tt
-each-both P Q R f (p ∷ l) a b = (f p (a .0) (b .0), each-both P Q R f l (a .1) (b .1))
 
 -- "A header goes out as 32 bytes by value": whatever waits is written whole, and emission's header length is the written one's
 pub headers-written : (card : Card) (t : Tables) → Audit card t → (p : ℕ) → p < card .pairs → side t p .standing .state ≡ 1

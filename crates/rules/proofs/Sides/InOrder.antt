@@ -3,6 +3,7 @@ use mathlib.Core.Path.{_≡_}
 use mathlib.Core.List.{List, [], _∷_}
 use Prim.Native.Nat.{ℕ, _+_, _-_, _≤_, _<_}
 use native.Mathlib.Omega.{arith}
+use Rattle.refusal.specs.Choice.{Each}
 use Rattle.psn.specs.Psn.{psns, half, distance}
 use Rattle.rules.specs.declared.Packet.{Packet}
 use Rattle.rules.specs.Card.{Card}
@@ -10,7 +11,7 @@ use Rattle.rules.specs.Account.{Side, U, X, H, N}
 use Rattle.rules.specs.Message.{span}
 use Rattle.rules.specs.Order.{Runs, Starts, Past, Stands, Ordered}
 use Rattle.rules.specs.Slots.{Tables, side}
-use Rattle.rules.specs.Audit.{Each, Bounded, Audit}
+use Rattle.rules.specs.Audit.{Bounded, Audit}
 
 module _ (size : Packet → ℕ) where
   abbrev pub RunsLow : ℕ → ℕ → List Packet → ℕ → Type 0

@@ -7,6 +7,7 @@ use native.Mathlib.Omega.{arith}
 use lib.Dec.{eqb}
 use borrow.Author.Tests.{ltb-true, ltb-false, lt-ltb, eqb-true, eqb-false}
 use lib.ListN.{drop}
+use Rattle.refusal.specs.Choice.{Each}
 use Rattle.refusal.proofs.Cases.{by-test, if-case}
 use Rattle.rules.specs.declared.Packet.{Packet}
 use Rattle.rules.specs.declared.Standing.{Standing}
@@ -18,7 +19,7 @@ use Rattle.rules.specs.Emission.{ends, waiting, sent}
 use Rattle.rules.specs.Slots.{Tables, side}
 use Rattle.rules.specs.Order.{_or_, left, right, Start}
 use Rattle.rules.proofs.Sides.InOrder.{RunsLow, StartsLow, InOrder, audited-order}
-use Rattle.rules.specs.Audit.{Audit, Each}
+use Rattle.rules.specs.Audit.{Audit}
 use Rattle.psn.proofs.Laws.{distance-same, distance-step, distance-inj, distance-zero}
 use Rattle.rules.proofs.Ranges.{in-range}
 use Rattle.rules.proofs.Sides.Order.{runs-end, span-pos, unanswered-is}

@@ -8,6 +8,8 @@ use native.Mathlib.Nat.{not-suc-le-zero, le-of-suc-le-suc}
 use lib.Dec.{eqb, ltb}
 use borrow.Author.Tests.{ltb-true, ltb-false, eqb-true, eqb-false}
 use lib.ListN.{length, getD}
+use Rattle.refusal.specs.Choice.{Each}
+use Rattle.refusal.proofs.Each.{each-at}
 use Rattle.refusal.proofs.Cases.{by-test}
 use Rattle.rules.specs.declared.Slot.{Slot}
 use Rattle.rules.specs.Slots.{times, join, Below, lastOf, Linked}
@@ -135,15 +137,6 @@ length-of-once n l b h = sym (tally-all n l b) ∙ tally-ones n l h
 
 -- ---- the audit's test for "each slot once": all queues run, different last slots, and the counts add up
 
-abbrev pub All : (List ℕ → Type 0) → List (List ℕ) → Type 0
-All P [] = Unit {0}
-All P (l ∷ ls) = P l × All P ls
-
-at-all : (P : List ℕ → Type 0) (ls : List (List ℕ)) → All P ls → (p : ℕ) → p < length ls → P (getD ls p [])
-at-all P [] h p l = absurd (not-suc-le-zero l)
-at-all P (m ∷ ls) h zero l = h .0
-at-all P (m ∷ ls) h (suc p) l = at-all P ls (h .1) p (le-of-suc-le-suc l)
-
 -- no list of ls that holds something has z as its last
 abbrev pub NoLast : ℕ → ℕ → List (List ℕ) → Type 0
 NoLast none z ls = (p : ℕ) → p < length ls → 0 < length (getD ls p []) → z ≢ lastOf none (getD ls p [])
@@ -166,7 +159,7 @@ in-join i (l ∷ ls) h =
     (suc (r .0), suc-le-suc (r .1), r .2))
 
 module _ (none : ℕ) (s : List Slot) where
-  pub distinct-join : (ls : List (List ℕ)) → All (Linked none s) ls → All (Below none) ls → Lasts none ls → Distinct (join ls)
+  pub distinct-join : (ls : List (List ℕ)) → Each (Linked none s) ls → Each (Below none) ls → Lasts none ls → Distinct (join ls)
   distinct-join [] h b d i = omega arith
   distinct-join (l ∷ ls) h b d i =
       by-test (ltb 0 (times i l))
@@ -178,8 +171,8 @@ module _ (none : ℕ) (s : List Slot) where
       both : 1 ≤ times i l → (p : ℕ) × (p < length ls) × (1 ≤ times i (getD ls p [])) → ⊥
       both x y =
           d .0 (some-length i l x) (y .0) (y .1) (some-length i (getD ls (y .0) []) (y .2))
-          (share-last none s i l (getD ls (y .0) []) (h .0) (at-all (Linked none s) ls (h .1) (y .0) (y .1)) (b .0) (at-all (Below none) ls (b .1) (y .0) (y .1)) x (y .2))
+          (share-last none s i l (getD ls (y .0) []) (h .0) (each-at (Linked none s) ls (y .0) [] (h .1) (y .1)) (b .0) (each-at (Below none) ls (y .0) [] (b .1) (y .1)) x (y .2))
 
-  pub once-of : (n : ℕ) (ls : List (List ℕ)) → All (Linked none s) ls → All (Below none) ls → Lasts none ls
+  pub once-of : (n : ℕ) (ls : List (List ℕ)) → Each (Linked none s) ls → Each (Below none) ls → Lasts none ls
       → Below n (join ls) → length (join ls) ≡ n → (i : ℕ) → i < n → times i (join ls) ≡ 1
   once-of n ls h b d low e i l = each-once n (join ls) (distinct-join ls h b d) low e i l

@@ -9,6 +9,7 @@ use lib.Dec.{eqb, ltb}
 use borrow.Author.Tests.{ltb-true, ltb-false, eqb-true, eqb-false, eq-eqb, ne-eqb}
 use lib.ListN.{length, set, take, drop, length-set, take-append-drop}
 use lib.Seq.{set-out, getD-set-same, getD-set-other, set-getD, set-set, set-comm}
+use Rattle.refusal.proofs.Each.{each-append, each-take, each-drop}
 use Rattle.refusal.proofs.Cases.{by-test}
 use Rattle.rules.specs.declared.Packet.{Packet}
 use Rattle.rules.specs.declared.Queue.{Queue}
@@ -39,18 +40,13 @@ times-parts i k l = rw (← times-append i (take k l) (drop k l)) (rw take-appen
 -- ---- lists of numbers below n
 
 pub below-append : (n : ℕ) (l m : List ℕ) → Below n l → Below n m → Below n (l ++ m)
-below-append n [] m h k = k
-below-append n (a ∷ l) m h k = (h .0, below-append n l m (h .1) k)
+below-append n l m = each-append (λ (a : ℕ). a < n) l m
 
 pub below-take : (n k : ℕ) (l : List ℕ) → Below n l → Below n (take k l)
-below-take n zero l h = tt
-below-take n (suc k) [] h = tt
-below-take n (suc k) (a ∷ l) h = (h .0, below-take n k l (h .1))
+below-take n k l = each-take (λ (a : ℕ). a < n) k l
 
 pub below-drop : (n k : ℕ) (l : List ℕ) → Below n l → Below n (drop k l)
-below-drop n zero l h = h
-below-drop n (suc k) [] h = tt
-below-drop n (suc k) (a ∷ l) h = below-drop n k l (h .1)
+below-drop n k l = each-drop (λ (a : ℕ). a < n) k l
 
 pub below-of : (n : ℕ) (l : List ℕ) → ((i : ℕ) → 1 ≤ times i l → i < n) → Below n l
 below-of n [] h = tt
