@@ -9,5 +9,6 @@ pub mod Dropped
 pub mod Called
 pub mod Buffers
 pub mod Completions
+pub mod Tidy
 pub mod Room
 pub mod Ledger

@@ -20,22 +20,22 @@ use Rattle.rules.specs.Card.{Card, small}
 use Rattle.rules.specs.Message.{packetsOf}
 use Rattle.rules.specs.Ranges.{badSettings, badPost}
 use Rattle.rules.specs.Posting.{posted}
+use Rattle.rules.specs.Emission.{emitted}
 use Rattle.rules.specs.Release.{release}
 use Rattle.rules.specs.Acknowledge.{acknowledge}
 use Rattle.rules.specs.Response.{response}
 use Rattle.rules.specs.Timer.{timer}
-use Rattle.rules.specs.Emission.{emitted}
 use Rattle.rules.specs.Slots.{slotAt, pairAt, sideOf, relinked, holding, arranged, free, queues, fresh}
-use Rattle.rules.specs.Passes.Tests.{_and_}
-use Rattle.rules.specs.Passes.Links.{linksPass}
-use Rattle.rules.specs.Passes.Stage.{same, allowedTo, single, opens, closes, goesOn}
-use Rattle.rules.specs.Passes.Record.{recordPasses}
-use Rattle.rules.specs.Passes.Queue.{queuePasses}
-use Rattle.rules.specs.Passes.Tables.{has, put, noneOf, pairPasses, passes}
-use Rattle.rules.specs.Requests.{Call, on, opening, posting, emitting, acknowledging, responding, ticking, closing}
-use Rattle.rules.specs.Refusals.{sideAt}
 use Rattle.rules.specs.Calls.{account, Said, call}
 use Rattle.rules.specs.History.{run, accounted, called}
+use Rattle.rules.specs.Passes.Links.{linksPass}
+use Rattle.rules.specs.Passes.Queue.{queuePasses}
+use Rattle.rules.specs.Passes.Record.{recordPasses}
+use Rattle.rules.specs.Passes.Stage.{same, allowedTo, single, opens, closes, goesOn}
+use Rattle.rules.specs.Passes.Tables.{has, put, noneOf, pairPasses, passes}
+use Rattle.rules.specs.Passes.Tests.{_and_}
+use Rattle.rules.specs.Refusals.{sideAt}
+use Rattle.rules.specs.Requests.{Call, on, opening, posting, emitting, acknowledging, responding, ticking, closing}
 
 -- a pair's settings by share and ceiling
 abbrev settings : ℕ → ℕ → Settings

@@ -1,5 +1,4 @@
 pub mod Demands
-pub mod Errors
 pub mod Numbers
 pub mod Examples
 pub mod Cards

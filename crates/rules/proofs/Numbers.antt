@@ -4,9 +4,9 @@ use mathlib.Core.List.{[], _∷_}
 use Rattle.psn.specs.Psn.{distance}
 use Rattle.rules.specs.Message.{packetsOf}
 use Rattle.rules.specs.Posting.{posted}
+use Rattle.rules.specs.Emission.{emitted}
 use Rattle.rules.specs.Release.{release}
 use Rattle.rules.specs.Acknowledge.{acknowledge}
-use Rattle.rules.specs.Emission.{emitted}
 use Rattle.rules.specs.Numbers.{eight}
 
 pub numbers :

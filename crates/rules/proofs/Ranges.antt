@@ -14,7 +14,7 @@ use Rattle.rules.specs.declared.Post.{Post}
 use Rattle.rules.specs.Card.{Card}
 use Rattle.rules.specs.Message.{slotsFor}
 use Rattle.rules.specs.Ranges.{settingsFaults, badSettings, postFaults, badPost}
-use Rattle.rules.specs.Messages.{Allowed}
+use Rattle.rules.specs.WholeMessages.{Allowed}
 
 abbrev NoneOf : List Bool → Type 0
 NoneOf [] = Unit {0}

@@ -1,4 +1,5 @@
 -- One pair's side of the account: every rule keeps what the audit asks of it.
+pub mod After
 pub mod InOrder
 pub mod Order
 pub mod Scan

@@ -2,6 +2,7 @@
 use mathlib.Core.Bool.{Bool}
 use mathlib.Core.List.{List, [], _∷_}
 use Prim.Native.Nat.{ℕ, suc}
+use Rattle.psn.specs.Psn.{before}
 use Rattle.refusal.specs.Choice.{if_then_else_}
 use Rattle.rules.specs.declared.Packet.{Packet}
 use Rattle.rules.specs.declared.Line.{Line}
@@ -52,6 +53,10 @@ noSide = record { standing = noStanding; packets = [] }
 -- the same pair with this line and this clock
 abbrev pub moved : Line → Clock → Standing → Standing
 moved l c t = record { state = t .state; settings = t .settings; line = l; clock = c }
+
+-- the further of x and y, by distance from u
+abbrev pub further : ℕ → ℕ → ℕ → ℕ
+further u x y = if before u x y then y else x
 
 -- the packet that is not there
 abbrev pub noPacket : Packet

@@ -10,16 +10,16 @@ use Rattle.rules.specs.declared.Standing.{Standing}
 use Rattle.rules.specs.declared.Answer.the-variants.{Done, Resending, Held, Ended}
 use Rattle.rules.specs.Account.{Side, U, H, moved}
 use Rattle.rules.specs.Ranges.{topBits, lowBits}
-use Rattle.rules.specs.Outcome.{Outcome, dropped, over}
+use Rattle.rules.specs.Outcome.{Outcome, dropped, endedStanding}
 use Rattle.rules.specs.Release.{Release, release}
 
--- "An event for PSN R ... answers "dropped", nothing changed, unless the distance U to R is less than U to H."
+-- "An event for PSN R .. answers "dropped", nothing changed, unless the distance U to R is less than U to H."
 abbrev pub inside : ℕ → Side → Bool
 inside r s = ltb (distance (U s) r) (distance (U s) (H s))
 
 -- "X becomes U, elapsed 0"; the counts left and the hold as given
-abbrev pub resent : ℕ → ℕ → ℕ → Standing → Standing
-resent retries rnrs hold t =
+abbrev pub backToU : ℕ → ℕ → ℕ → Standing → Standing
+backToU retries rnrs hold t =
     let l = t .line in
     moved (record { u = l .u; x = l .u; h = l .h; n = l .n }) (record { retries = retries; rnrs = rnrs; elapsed = 0; hold = hold }) t
 
@@ -27,9 +27,9 @@ resent retries rnrs hold t =
 abbrev pub resending : Release → Outcome
 resending g =
     let c = g .standing .clock in
-    record { answer = Resending; released = g .released; flushed = 0; standing = resent (c .retries) (c .rnrs) (c .hold) (g .standing) }
+    record { answer = Resending; released = g .released; flushed = 0; standing = backToU (c .retries) (c .rnrs) (c .hold) (g .standing) }
 
--- "000, ACK: release before R + 1. If stopped, X becomes U, elapsed 0, answer "resending"; else "done"."
+-- "Syndrome top bits 000, ACK: release before R + 1. If stopped, X becomes U, elapsed 0, answer "resending"; else "done"."
 abbrev pub ack : ℕ → Side → Outcome
 ack r s =
     let g = release (next r) s in
@@ -37,15 +37,15 @@ ack r s =
     then resending g
     else record { answer = Done; released = g .released; flushed = 0; standing = g .standing }
 
--- "011, NAK codes 0, 1, 2: release before R, X becomes U, elapsed 0, "resending"."
+-- "011, NAK codes 0 (sequence), 1 (invalid request), 2 (remote access), all recoverable as in 003: release before R, X becomes U, elapsed 0, "resending"."
 abbrev pub nak : ℕ → Side → Outcome
 nak r s = resending (release r s)
 
--- "011 code 3: release before R, then end the pair, "ended"."
-abbrev pub final : ℕ → Side → Outcome
-final r s =
+-- "011 code 3 (remote operational): release before R, then end the pair, "ended"."
+abbrev pub endedAfter : ℕ → Side → Outcome
+endedAfter r s =
     let g = release r s in
-    record { answer = Ended; released = g .released; flushed = length (s .packets) - g .released; standing = over (g .standing) }
+    record { answer = Ended; released = g .released; flushed = length (s .packets) - g .released; standing = endedStanding (g .standing) }
 
 -- "001, RNR: release before R. With RNR retry set below 7: a count of 0 ends the pair, "ended"; a higher one drops by one. Unless ended, X becomes U,
 -- elapsed 0, hold for the wait of the low five bits (replacing any hold), "held"."
@@ -56,8 +56,8 @@ rnr r wait s =
     let counts = ltb (s .standing .settings .rnr) 7 in
     let left = if counts then c .rnrs - 1 else c .rnrs in
     if counts && eqb (c .rnrs) 0
-    then final r s
-    else record { answer = Held; released = g .released; flushed = 0; standing = resent (c .retries) left wait (g .standing) }
+    then endedAfter r s
+    else record { answer = Held; released = g .released; flushed = 0; standing = backToU (c .retries) left wait (g .standing) }
 
 -- "The thirty-two RNR waits, IB, in units of 10,000 ns, codes 0 to 31"
 abbrev pub waits : List ℕ
@@ -69,7 +69,7 @@ waits =
 abbrev pub waitOf : ℕ → ℕ
 waitOf low = 10000 * getD waits low 0
 
--- by the syndrome's top bits; one that is none of these was refused, by 3
+-- by the syndrome's top bits; one that is none of these was refused, by 3. "credits (an ACK's low five bits are ignored)"
 unfoldable pub acknowledge : ℕ → ℕ → Side → Outcome
 acknowledge r syndrome s =
     let low = lowBits syndrome in
@@ -77,4 +77,4 @@ acknowledge r syndrome s =
     else if eqb (topBits syndrome) 0 then ack r s
     else if eqb (topBits syndrome) 1 then rnr r (waitOf low) s
     else if leb low 2 then nak r s
-    else final r s
+    else endedAfter r s

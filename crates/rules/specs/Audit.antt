@@ -1,4 +1,4 @@
--- "The audit passes exactly if": document 01's six bullets, in its order.
+-- "The audit passes exactly if": document 01's six bullets, in its order, and that a state is one of its three.
 use mathlib.Core.Path.{_≡_}
 use mathlib.Core.Bool.{false}
 use mathlib.Core.List.{List, [], _∷_, _++_}
@@ -11,10 +11,10 @@ use Rattle.rules.specs.Card.{Card}
 use Rattle.rules.specs.Account.{Side, U, X, H, N, ready, ended}
 use Rattle.rules.specs.Ranges.{badSettings}
 use Rattle.rules.specs.Timer.{timeoutOf}
-use Rattle.rules.specs.Slots.{Tables, pairAt, queue, queues, idle, free, times, join, side, sides, Spells}
+use Rattle.rules.specs.Slots.{Tables, pairAt, queue, queues, freeRecord, free, times, concat, side, sides, Spells}
 use Rattle.rules.specs.Pool.{claimed, claims}
 use Rattle.rules.specs.Order.{Ordered}
-use Rattle.rules.specs.Messages.{Remaining}
+use Rattle.rules.specs.WholeMessages.{Remaining}
 
 -- "the tables have 64 and 256 records; each queue runs by its links from its first end to its last ..; each slot is in one pair's queue or the free queue,
 -- once; closed and ended pairs hold none; held counts are true"
@@ -22,9 +22,9 @@ pub record Whole (card : Card) (t : Tables) : Type 0 where
   pub pair-records : length (t .pairs) ≡ card .pairs
   pub slot-records : length (t .slots) ≡ card .slots
   pub pairs-run : (p : ℕ) → p < card .pairs → Spells (card .none) (t .slots) (pairAt (t .pairs) p .queue) (queue t p)
-  pub free-runs : Spells (card .none) (t .slots) (idle t) (free t)
-  pub once : (i : ℕ) → i < card .slots → times i (free t ++ join (queues t)) ≡ 1
-  pub idle-empty : (p : ℕ) → p < card .pairs → (pairAt (t .pairs) p .standing .state ≡ ready → ⊥) → pairAt (t .pairs) p .queue .held ≡ 0
+  pub free-runs : Spells (card .none) (t .slots) (freeRecord t) (free t)
+  pub once : (i : ℕ) → i < card .slots → times i (free t ++ concat (queues t)) ≡ 1
+  pub others-empty : (p : ℕ) → p < card .pairs → (pairAt (t .pairs) p .standing .state ≡ ready → ⊥) → pairAt (t .pairs) p .queue .held ≡ 0
 
 -- "open pairs' settings are in range, their PSNs and their slots' below 2^24, counts left at most their settings, each held count at most its ceiling"
 pub record Bounded (card : Card) (s : Side) : Type 0 where
@@ -51,7 +51,7 @@ pub record Timed (s : Side) : Type 0 where
 
 pub record Audit (card : Card) (t : Tables) : Type 0 where
   pub whole : Whole card t
-  -- "a pair is closed, ready or ended"
+  -- "A pair is closed, ready or ended."
   pub states : (p : ℕ) → p < card .pairs → side t p .standing .state ≤ ended
   pub bounded : (p : ℕ) → p < card .pairs → 0 < side t p .standing .state → Bounded card (side t p)
   pub ordered : (p : ℕ) → p < card .pairs → side t p .standing .state ≡ ready → Ordered (side t p)

@@ -1,7 +1,7 @@
 -- What a call does: to the account, where no slot, link or free queue is; and to the tables, by way of the slots. Both by the same refusals and rules.
 use mathlib.Core.Bool.{not, _&&_}
 use mathlib.Core.List.{List, [], _∷_, _++_}
-use Prim.Native.Nat.{ℕ}
+use Prim.Native.Nat.{ℕ, _+_}
 use lib.Dec.{eqb}
 use lib.ListN.{length, set, take, drop, replicate}
 use Rattle.refusal.specs.Choice.{if_then_else_}
@@ -16,7 +16,7 @@ use Rattle.rules.specs.Card.{Card}
 use Rattle.rules.specs.Account.{Side, noSide, N}
 use Rattle.rules.specs.Message.{packetsOf}
 use Rattle.rules.specs.Posting.{posted}
-use Rattle.rules.specs.Outcome.{Outcome, leaving, completed, messagesOf, opened, closure}
+use Rattle.rules.specs.Outcome.{Outcome, departures, completions, messagesOf, opened, closingAll}
 use Rattle.rules.specs.Acknowledge.{acknowledge}
 use Rattle.rules.specs.Response.{placeOf, response}
 use Rattle.rules.specs.Timer.{timer}
@@ -26,11 +26,11 @@ use Rattle.rules.specs.Passes.Tables.{passes}
 use Rattle.rules.specs.Requests.{Request, opening, posting, emitting, acknowledging, responding, ticking, closing, Call, starting, on, lent}
 use Rattle.rules.specs.Refusals.{sideAt, refusals}
 
--- ---- what an accepted request does: its answer, how its pair then stands, what leaves or joins the pair's packets, and the lent buffer
+-- ---- what an accepted request does: its answer, how its pair then stands, which packets leave or join the pair, and the lent buffer
 
 pub data Move : Type 0 where
-  leave : ℕ → Move
-  join : List Packet → Move
+  leaves : (released flushed : ℕ) → Move
+  joins : List Packet → Move
 
 pub record Effect : Type 0 where
   pub reply : Reply
@@ -38,9 +38,9 @@ pub record Effect : Type 0 where
   pub move : Move
   pub buffer : List ℕ
 
--- "filled in PSN order, rest unchanged": from the front
-abbrev pub written : List ℕ → List ℕ → List ℕ
-written new old = new ++ drop (length new) old
+-- from the front, "rest unchanged", "Other buffer bytes stay."
+abbrev pub overlaid : List ℕ → List ℕ → List ℕ
+overlaid new old = new ++ drop (length new) old
 
 -- ""done" with the payload's place"; other answers have none
 abbrev pub placeIf : Answer → ℕ → ℕ
@@ -52,31 +52,32 @@ placeIf Resumed n = 0
 placeIf Idle n = 0
 placeIf Ended n = 0
 
-abbrev pub told : Outcome → ℕ → List ℕ → Side → Effect
-told o place buffer s =
+abbrev pub reported : Outcome → ℕ → List ℕ → Side → Effect
+reported o place buffer s =
+    let gone = departures (o .released) (o .flushed) (s .packets) in
     record {
-      reply = Answered (o .answer) (messagesOf (take (leaving o) (s .packets))) place;
+      reply = Answered (o .answer) (messagesOf gone) place;
       standing = o .standing;
-      move = leave (leaving o);
-      buffer = written (completed o s) buffer;
+      move = leaves (o .released) (o .flushed);
+      buffer = overlaid (completions gone) buffer;
     }
 
 -- "Open and close answer "done", a post its first PSN, an emission its count."
 abbrev pub effect : Request → Side → Effect
-effect (opening st a) s = record { reply = Answered Done 0 0; standing = opened st a; move = leave 0; buffer = [] }
+effect (opening st a) s = record { reply = Answered Done 0 0; standing = opened st a; move = leaves 0 0; buffer = [] }
 effect (posting m) s =
-    record { reply = First (N s); standing = posted m s .standing; move = join (packetsOf (s .standing .settings) m (N s)); buffer = [] }
+    record { reply = First (N s); standing = posted m s .standing; move = joins (packetsOf (s .standing .settings) m (N s)); buffer = [] }
 effect (emitting budget b) s =
     record {
       reply = Count (going budget s);
       standing = emitted budget s .standing;
-      move = leave 0;
-      buffer = written (emissions (s .standing) (outgoing budget s)) b;
+      move = leaves 0 0;
+      buffer = overlaid (emissions (s .standing) (outgoing budget s)) b;
     }
-effect (acknowledging r y b) s = told (acknowledge r y s) 0 b s
-effect (responding r o l b) s = told (response r s) (placeIf (response r s .answer) (placeOf r s)) b s
-effect (ticking e b) s = told (timer e s) 0 b s
-effect (closing b) s = told (closure s) 0 b s
+effect (acknowledging r y b) s = reported (acknowledge r y s) 0 b s
+effect (responding r o l b) s = reported (response r s) (placeIf (response r s .answer) (placeOf r s)) b s
+effect (ticking e b) s = reported (timer e s) 0 b s
+effect (closing b) s = reported (closingAll s) 0 b s
 
 -- ---- a step: what is said (answer and buffer), and what is next
 
@@ -101,8 +102,8 @@ started a = record { said = record { reply = Answered Done 0 0; buffer = [] }; n
 -- ---- the account
 
 abbrev pub packetsAfter : Move → List Packet → List Packet
-packetsAfter (leave k) ps = drop k ps
-packetsAfter (join qs) ps = ps ++ qs
+packetsAfter (leaves released flushed) ps = drop (released + flushed) ps
+packetsAfter (joins qs) ps = ps ++ qs
 
 abbrev pub sideAfter : Effect → Side → Side
 sideAfter e s = record { standing = e .standing; packets = packetsAfter (e .move) (s .packets) }
@@ -121,10 +122,11 @@ account card (on p q) a =
 -- ---- the tables
 
 abbrev pub tablesAfter : ℕ → ℕ → Standing → Move → Tables → Tables
-tablesAfter none p st (leave k) t = freed none p st k t
-tablesAfter none p st (join qs) t = stored none p st qs t
+tablesAfter none p st (leaves released flushed) t = freed none p st (released + flushed) t
+tablesAfter none p st (joins qs) t = stored none p st qs t
 
--- "Every call on the tables audits first; a fresh start tests only the two lengths (15)." "Order: 15, then 1 to 9"
+-- "Every call on the tables audits first; a fresh start tests only the two lengths (15)." "Order: 15, then 1 to 9". `passes` is true exactly if the tables pass the
+-- audit (`decided`)
 unfoldable pub call : Card → Call → Tables → Step Tables
 call card starting t =
     if eqb (length (t .pairs)) (card .pairs) && eqb (length (t .slots)) (card .slots)

@@ -12,15 +12,14 @@ use Rattle.wire.specs.Header.{headerBytes, writeOf}
 use Rattle.rules.specs.declared.Packet.{Packet}
 use Rattle.rules.specs.declared.Settings.{Settings}
 use Rattle.rules.specs.declared.Standing.{Standing}
-use Rattle.rules.specs.Account.{Side, U, X, H, N, moved, ahead}
-use Rattle.rules.specs.Message.{pmtu, isRead, span}
-use Rattle.rules.specs.Release.{further, unanswered}
+use Rattle.rules.specs.Account.{Side, U, X, H, N, moved, further, ahead}
+use Rattle.rules.specs.Message.{pmtu, isRead, span, unanswered}
 
--- where a record ends
+-- where a record ends: the PSN after its last
 abbrev pub ends : Settings → Packet → ℕ
 ends s p = plus (p .psn) (span s p)
 
--- "the records ending after X": those from the first that does
+-- "the records ending after X": those from the first that does, which is all of them (`waiting-is`)
 abbrev pub waiting : Side → List Packet
 waiting s = drop (ahead (λ p. before (U s) (X s) (ends (s .standing .settings) p)) (s .packets)) (s .packets)
 

@@ -1,27 +1,83 @@
--- "Errors of this trade": what shuts out the first and the third. The second, "PSNs compared as plain numbers", is a law of the packet number (`around`).
+-- "Errors of this trade", each as what shuts it out. Their proofs are in proofs/Errors.
 use mathlib.Core.Path.{_≡_}
-use mathlib.Core.Bool.{true}
+use mathlib.Core.Bool.{true, false}
+use mathlib.Core.List.{List, _++_, map}
 use Prim.Native.Nat.{ℕ, _≤_, _<_}
-use Rattle.psn.specs.Psn.{distance}
+use Rattle.psn.specs.Psn.{psns, distance, plus}
 use Rattle.refusal.specs.Choice.{Each}
 use Rattle.rules.specs.declared.Packet.{Packet}
-use Rattle.rules.specs.Account.{U}
-use Rattle.rules.specs.Message.{isRead}
+use Rattle.rules.specs.declared.Line.{Line}
+use Rattle.rules.specs.declared.Standing.{Standing}
+use Rattle.rules.specs.declared.Post.{Post}
+use Rattle.rules.specs.Account.{Side, U, moved}
+use Rattle.rules.specs.Message.{isRead, unanswered}
+use Rattle.rules.specs.Posting.{posted}
+use Rattle.rules.specs.Outcome.{Outcome}
+use Rattle.rules.specs.Acknowledge.{acknowledge}
+use Rattle.rules.specs.Response.{response}
+use Rattle.rules.specs.Timer.{timer}
+use Rattle.rules.specs.Emission.{emitted}
 use Rattle.rules.specs.Slots.{Tables, slotAt, queue, free, times, side}
 
--- a packet after R, and one up to R, by distance from u
-abbrev pub After : ℕ → ℕ → Packet → Type 0
-After u r q = distance u r < distance u (q .psn)
+-- ---- "An ACK of Sends that leaves R held."
 
+-- a packet up to R, and one after R, by distance from u
 abbrev pub UpTo : ℕ → ℕ → Packet → Type 0
 UpTo u r q = distance u (q .psn) ≤ distance u r
 
--- "An ACK of Sends that leaves R held." Where tables t became n by an ACK of R to pair p that was not stopped: no packet up to R is held, and every slot that
--- held one is free
+abbrev pub After : ℕ → ℕ → Packet → Type 0
+After u r q = distance u r < distance u (q .psn)
+
+-- where tables t became n: pair p let go of its packets up to R and of no other, and every slot that held one of them is free
 pub record NoneUpTo (p r : ℕ) (t n : Tables) : Type 0 where
+  pub gone : List Packet
+  pub rest : side t p .packets ≡ gone ++ side n p .packets
+  pub all-up-to : Each (UpTo (U (side t p)) r) gone
   pub none-held : Each (After (U (side t p)) r) (side n p .packets)
   pub slots-free : (i : ℕ) → 1 ≤ times i (queue t p) → UpTo (U (side t p)) r (slotAt (t .slots) i .packet) → times i (free n) ≡ 1
 
--- "An ACK past an unanswered read that frees the read." Every slot of pair p that holds a read stays in its queue
-abbrev pub ReadsStay : ℕ → Tables → Tables → Type 0
-ReadsStay p t n = (i : ℕ) → 1 ≤ times i (queue t p) → isRead (slotAt (t .slots) i .packet) ≡ true → times i (queue n p) ≡ 1
+-- ---- "PSNs compared as plain numbers, wrong at 16,777,215."
+
+-- every PSN of a side, k places on
+abbrev pub turnedPacket : ℕ → Packet → Packet
+turnedPacket k p =
+    record {
+      psn = plus (p .psn) k;
+      ticket = p .ticket;
+      opcode = p .opcode;
+      offset = p .offset;
+      length = p .length;
+      address = p .address;
+      key = p .key;
+      total = p .total;
+      value = p .value;
+    }
+
+abbrev pub turnedLine : ℕ → Line → Line
+turnedLine k l = record { u = plus (l .u) k; x = plus (l .x) k; h = plus (l .h) k; n = plus (l .n) k }
+
+abbrev pub turnedStanding : ℕ → Standing → Standing
+turnedStanding k t = moved (turnedLine k (t .line)) (t .clock) t
+
+abbrev pub turned : ℕ → Side → Side
+turned k s = record { standing = turnedStanding k (s .standing); packets = map (turnedPacket k) (s .packets) }
+
+-- an outcome's line turned; answer and counts as they are
+abbrev pub turnedOutcome : ℕ → Outcome → Outcome
+turnedOutcome k o = record { answer = o .answer; released = o .released; flushed = o .flushed; standing = turnedStanding k (o .standing) }
+
+-- every rule does the same wherever the PSNs stand: no PSN is compared as a plain number
+pub record TurnsRound (k : ℕ) (s : Side) : Type 0 where
+  pub post : (m : Post) → posted m (turned k s) ≡ turned k (posted m s)
+  pub emission : (budget : ℕ) → emitted budget (turned k s) ≡ turned k (emitted budget s)
+  pub acknowledgement : (r syndrome : ℕ) → r < psns → acknowledge (plus r k) syndrome (turned k s) ≡ turnedOutcome k (acknowledge r syndrome s)
+  pub read-response : (r : ℕ) → r < psns → response (plus r k) (turned k s) ≡ turnedOutcome k (response r s)
+  pub timer-step : (e : ℕ) → timer e (turned k s) ≡ turnedOutcome k (timer e s)
+
+-- ---- "An ACK past an unanswered read that frees the read."
+
+-- every slot of pair p that holds a read stays in its queue, and the read's first unanswered PSN is what it was
+pub record ReadsStay (p : ℕ) (t n : Tables) : Type 0 where
+  pub stay : (i : ℕ) → 1 ≤ times i (queue t p) → isRead (slotAt (t .slots) i .packet) ≡ true → times i (queue n p) ≡ 1
+  pub unanswered-kept : (i : ℕ) → 1 ≤ times i (queue t p) → isRead (slotAt (t .slots) i .packet) ≡ true
+      → unanswered (side n p .standing) (slotAt (t .slots) i .packet) ≡ unanswered (side t p .standing) (slotAt (t .slots) i .packet)

@@ -11,11 +11,11 @@ use Rattle.rules.specs.declared.Reply.{Reply}
 use Rattle.rules.specs.declared.Reply.the-variants.{Refused, Answered, First, Count}
 use Rattle.rules.specs.Card.{Card}
 use Rattle.rules.specs.Account.{Side}
-use Rattle.rules.specs.Message.{isLast}
+use Rattle.rules.specs.Outcome.{Departure, departures}
 use Rattle.rules.specs.Slots.{Tables, fresh}
 use Rattle.rules.specs.Requests.{Call, starting, on}
 use Rattle.rules.specs.Refusals.{sideAt, refusals}
-use Rattle.rules.specs.Calls.{Move, leave, join as joins, Effect, effect, Said, Step, allClosed, account, call}
+use Rattle.rules.specs.Calls.{Move, leaves, joins, Effect, effect, Said, Step, allClosed, account, call}
 
 -- ---- a history: what was said, call by call, and what came of it
 
@@ -30,44 +30,38 @@ run f (c ∷ cs) a =
     let r = run f cs (s .next) in
     record { said = s .said ∷ r .said; last = r .last }
 
--- ---- one pair's ledger: the packets accepted, those released (flushed included), and the tickets that its host was told, each in order
+-- ---- one pair's ledger: the packets accepted, those that left, released or flushed, and what its host was told of them, each in order
 
 pub record Ledger : Type 0 where
   pub accepted : List Packet
-  pub released : List Packet
-  pub tickets : List ℕ
+  pub departed : List Departure
+  pub told : List ℕ
 
 abbrev pub blank : Ledger
-blank = record { accepted = []; released = []; tickets = [] }
+blank = record { accepted = []; departed = []; told = [] }
 
+-- which packets a move accepts, and which leave from the front of those held
 abbrev pub accepts : Move → List Packet
-accepts (leave k) = []
+accepts (leaves released flushed) = []
 accepts (joins qs) = qs
 
--- released ones leave from the front of those held
-abbrev pub releases : Move → List Packet → List Packet
-releases (leave k) held = take k held
-releases (joins qs) held = []
+abbrev pub departs : Move → List Packet → List Departure
+departs (leaves released flushed) held = departures released flushed held
+departs (joins qs) held = []
 
--- a ticket, a status, a ticket and so on: the tickets
-abbrev pub ticketsOf : List ℕ → List ℕ
-ticketsOf [] = []
-ticketsOf (t ∷ []) = t ∷ []
-ticketsOf (t ∷ s ∷ l) = t ∷ ticketsOf l
-
--- what the host reads: as many messages as the answer counts, from the buffer's front
-abbrev pub reads : Reply → List ℕ → List ℕ
-reads (Answered a n place) buffer = ticketsOf (take (2 * n) buffer)
-reads (Refused n) buffer = []
-reads (First psn) buffer = []
-reads (Count n) buffer = []
+-- what the host reads: ticket and status of as many messages as the answer counts, from the buffer's front
+abbrev pub heard : Reply → List ℕ → List ℕ
+heard (Answered a messages place) buffer = take (2 * messages) buffer
+heard (Refused n) buffer = []
+heard (First psn) buffer = []
+heard (Count n) buffer = []
 
 abbrev pub entered : Effect → List Packet → Ledger → Ledger
 entered e held l =
     record {
       accepted = l .accepted ++ accepts (e .move);
-      released = l .released ++ releases (e .move) held;
-      tickets = l .tickets ++ reads (e .reply) (e .buffer);
+      departed = l .departed ++ departs (e .move) held;
+      told = l .told ++ heard (e .reply) (e .buffer);
     }
 
 module _ (card : Card) (p : ℕ) where
@@ -83,11 +77,6 @@ module _ (card : Card) (p : ℕ) where
 
   abbrev pub ledger : List Call → Ledger
   ledger cs = ledgerFrom cs (allClosed card) blank
-
--- the tickets of the messages whose last packet is one of these
-abbrev pub lasts : List Packet → List ℕ
-lasts [] = []
-lasts (p ∷ ps) = if isLast p then p .ticket ∷ lasts ps else lasts ps
 
 -- ---- the account over a history, and the tables over it
 

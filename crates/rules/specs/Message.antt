@@ -2,13 +2,14 @@
 use mathlib.Core.Bool.{Bool}
 use mathlib.Core.List.{List, [], _∷_, map}
 use Prim.Native.Nat.{ℕ, zero, suc, _+_, _-_, _*_, _/_, _^_}
-use lib.Dec.{eqb}
-use Rattle.psn.specs.Psn.{plus}
+use lib.Dec.{ltb, eqb}
+use Rattle.psn.specs.Psn.{distance, plus}
 use Rattle.refusal.specs.Choice.{if_then_else_}
 use Rattle.wire.specs.Opcodes as opcodes
 use Rattle.wire.specs.Opcodes.{hasReth, hasImmediate}
 use Rattle.rules.specs.declared.Packet.{Packet}
 use Rattle.rules.specs.declared.Settings.{Settings}
+use Rattle.rules.specs.declared.Standing.{Standing}
 use Rattle.rules.specs.declared.Post.{Post}
 
 -- "PMTU code 1 to 5 (256, 512, 1024, 2048, 4096 bytes)"
@@ -87,3 +88,7 @@ span s p = if isRead p then packetsFor (pmtu s) (p .length) else 1
 -- it is the last of its message
 abbrev pub isLast : Packet → Bool
 isLast p = opcodes.isLast (p .opcode)
+
+-- a read's first unanswered PSN: U, where U is one of its PSNs
+abbrev pub unanswered : Standing → Packet → ℕ
+unanswered t p = if ltb (distance (p .psn) (t .line .u)) (span (t .settings) p) then t .line .u else p .psn

@@ -18,7 +18,7 @@ module _ (size : Packet → ℕ) where
   Runs u o [] n = o ≡ distance u n
   Runs u o (p ∷ ps) n = (distance u (p .psn) ≡ o) × Runs u (o + size p) ps n
 
-  -- the "queue starts at U (its first record may be a read partly answered up to U)": U is one of its first record's PSNs. "An empty queue has U = N"
+  -- the "queue starts at U (its first record may be a read partly answered up to U)": U is one of its first record's PSNs. "an empty queue has U = N"
   abbrev pub Starts : ℕ → List Packet → ℕ → Type 0
   Starts u [] n = 0 ≡ distance u n
   Starts u (p ∷ ps) n = (distance (p .psn) u < size p) × Runs u (size p - distance (p .psn) u) ps n

@@ -1,5 +1,5 @@
 -- What an event, a timer step, an open or a close makes of a pair; completions; how a pair opens, ends and closes.
-use mathlib.Core.List.{List, [], _∷_, _++_}
+use mathlib.Core.List.{List, [], _∷_, _++_, map}
 use Prim.Native.Nat.{ℕ, _+_}
 use lib.ListN.{length, take, drop}
 use Rattle.refusal.specs.Choice.{if_then_else_}
@@ -18,13 +18,6 @@ pub record Outcome : Type 0 where
   pub flushed : ℕ
   pub standing : Standing
 
--- both leave the pair
-abbrev pub leaving : Outcome → ℕ
-leaving o = o .released + o .flushed
-
-abbrev pub after : Outcome → Side → Side
-after o s = record { standing = o .standing; packets = drop (leaving o) (s .packets) }
-
 -- no packet leaves
 abbrev pub staying : Answer → Standing → Outcome
 staying a t = record { answer = a; released = 0; flushed = 0; standing = t }
@@ -33,20 +26,29 @@ staying a t = record { answer = a; released = 0; flushed = 0; standing = t }
 abbrev pub dropped : Side → Outcome
 dropped s = staying Dropped (s .standing)
 
--- ---- "each message yields its ticket, then its status, once, when its last packet is released (0) or flushed (1)", in PSN order
+-- ---- completions
 
-abbrev pub completions : ℕ → List Packet → List ℕ
-completions status [] = []
-completions status (p ∷ ps) = if isLast p then p .ticket ∷ status ∷ completions status ps else completions status ps
+-- a packet that left, and its status: released 0, flushed 1
+pub record Departure : Type 0 where
+  pub packet : Packet
+  pub status : ℕ
 
-abbrev pub completed : Outcome → Side → List ℕ
-completed o s =
-    completions 0 (take (o .released) (s .packets)) ++ completions 1 (take (o .flushed) (drop (o .released) (s .packets)))
+abbrev pub leftWith : ℕ → List Packet → List Departure
+leftWith status ps = map (λ p. record { packet = p; status = status }) ps
+
+-- so many are released from the front, so many behind them are flushed
+abbrev pub departures : ℕ → ℕ → List Packet → List Departure
+departures released flushed ps = leftWith 0 (take released ps) ++ leftWith 1 (take flushed (drop released ps))
+
+-- "each message yields its ticket, then its status, once, when its last packet is released (0) or flushed (1)", "in PSN order"
+abbrev pub completions : List Departure → List ℕ
+completions [] = []
+completions (d ∷ ds) = if isLast (d .packet) then d .packet .ticket ∷ d .status ∷ completions ds else completions ds
 
 -- "count of messages in the answer"
-abbrev pub messagesOf : List Packet → ℕ
+abbrev pub messagesOf : List Departure → ℕ
 messagesOf [] = 0
-messagesOf (p ∷ ps) = (if isLast p then 1 else 0) + messagesOf ps
+messagesOf (d ∷ ds) = (if isLast (d .packet) then 1 else 0) + messagesOf ds
 
 -- ---- opening, ending, closing
 
@@ -61,8 +63,8 @@ opened s first =
     }
 
 -- "An ended pair keeps its share until closed; its U, X and H become N, its hold and elapsed 0."
-abbrev pub over : Standing → Standing
-over t =
+abbrev pub endedStanding : Standing → Standing
+endedStanding t =
     let n = t .line .n in
     record {
       state = ended;
@@ -73,7 +75,7 @@ over t =
 
 -- "Ending or closing a pair flushes all it holds."
 abbrev pub ending : Side → Outcome
-ending s = record { answer = Ended; released = 0; flushed = length (s .packets); standing = over (s .standing) }
+ending s = record { answer = Ended; released = 0; flushed = length (s .packets); standing = endedStanding (s .standing) }
 
-abbrev pub closure : Side → Outcome
-closure s = record { answer = Done; released = 0; flushed = length (s .packets); standing = noStanding }
+abbrev pub closingAll : Side → Outcome
+closingAll s = record { answer = Done; released = 0; flushed = length (s .packets); standing = noStanding }

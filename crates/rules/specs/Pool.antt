@@ -17,17 +17,17 @@ abbrev pub claimed : List Claim → ℕ
 claimed [] = 0
 claimed (c ∷ cs) = max (c .share) (c .held) + claimed cs
 
--- 8: "the audit's last sum would exceed 256", if holder p claimed c
+-- the sum would exceed the total, if holder p claimed c
 abbrev pub exceeds : ℕ → List Claim → ℕ → Claim → Bool
 exceeds total cs p c = ltb total (claimed (set cs p c))
 
--- 8: "held + new slots exceeds the ceiling", or that
+-- it would hold more than its ceiling, or that
 abbrev pub lacksRoom : ℕ → ℕ → List Claim → ℕ → Claim → Bool
 lacksRoom total ceiling cs p c = ltb ceiling (c .held) || exceeds total cs p c
 
 -- ---- slots as a pool
 
--- "over open pairs (ready or ended)": a closed pair claims nothing
+-- what a pair claims, "over open pairs (ready or ended)": a closed one nothing
 abbrev pub claimOf : Side → Claim
 claimOf s =
     if eqb (s .standing .state) closed

@@ -1,4 +1,4 @@
--- "Ranges for 3", and refusal 5, which asks a post and its pair's ceiling alone. The audit asks the same of what it finds.
+-- "Ranges for 3", and refusal 5, which asks a post and its pair's settings alone. The audit asks the same of what it finds.
 use mathlib.Core.Bool.{Bool, not, _&&_, _||_}
 use mathlib.Core.List.{List, [], _∷_}
 use Prim.Native.Nat.{ℕ, _+_, _/_, _%_, _^_}
@@ -10,7 +10,7 @@ use Rattle.rules.specs.declared.Post.{Post}
 use Rattle.rules.specs.Card.{Card}
 use Rattle.rules.specs.Message.{asksRead, slotsFor}
 
--- "Open: far pair and first PSN below 2^24; P_Key any 16 bits; PMTU code 1 to 5; share 1 to ceiling, ceiling at most 256; retry and RNR retry 0 to 7;
+-- "Open: far pair and first PSN below 2^24; P_Key any 16 bits; PMTU code 1 to 5 (256, 512, 1024, 2048, 4096 bytes); share 1 to ceiling, ceiling at most 256; retry and RNR retry 0 to 7;
 -- timeout code 0 to 31."
 abbrev pub settingsFaults : Card → Settings → List Bool
 settingsFaults card s =
@@ -61,13 +61,17 @@ topBits y = y / 32
 abbrev pub lowBits : ℕ → ℕ
 lowBits y = y % 32
 
--- "syndrome as below ... Any other syndrome: refusal 3."
+-- "syndrome as below", "Any other syndrome: refusal 3."
 abbrev pub badSyndrome : ℕ → Bool
 badSyndrome y = not (eqb (topBits y) 0 || eqb (topBits y) 1 || (eqb (topBits y) 3 && leb (lowBits y) 3))
 
 -- "response opcode 13 to 16"
 abbrev pub badResponse : ℕ → Bool
 badResponse op = ltb op 13 || ltb 16 op
+
+-- "Elapsed time: any 32-bit count of ns."
+abbrev pub badElapsed : ℕ → Bool
+badElapsed e = leb (2 ^ 32) e
 
 -- 5: "a post of more slots than the pair's ceiling"
 abbrev pub overCeiling : Settings → Post → Bool

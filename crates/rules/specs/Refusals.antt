@@ -12,7 +12,7 @@ use Rattle.rules.specs.declared.Post.{Post}
 use Rattle.rules.specs.Card.{Card}
 use Rattle.rules.specs.Account.{Side, noSide, closed, ready, U, N, ahead}
 use Rattle.rules.specs.Message.{slotsFor, psnsFor, isRead}
-use Rattle.rules.specs.Ranges.{badSettings, badPsn, badPost, badBudget, badSyndrome, badResponse, overCeiling}
+use Rattle.rules.specs.Ranges.{badSettings, badPsn, badPost, badBudget, badSyndrome, badResponse, badElapsed, overCeiling}
 use Rattle.rules.specs.Acknowledge.{inside}
 use Rattle.rules.specs.Response.{unfit}
 use Rattle.rules.specs.Pool.{exceeds, lacksRoom, claims}
@@ -70,17 +70,18 @@ outOfRange card (posting m) = badPost m
 outOfRange card (emitting n b) = badBudget n
 outOfRange card (acknowledging r y b) = badPsn r || badSyndrome y
 outOfRange card (responding r o l b) = badPsn r || badResponse o
-outOfRange card (ticking e b) = false
+outOfRange card (ticking e b) = badElapsed e
 outOfRange card (closing b) = false
 
 -- 6: "a fenced post while the pair holds a read"
 abbrev pub anyRead : List Packet → Bool
 anyRead ps = ltb (ahead isRead ps) (length ps)
 
--- 8: "post: held + new slots exceeds the ceiling; post or open: the audit's last sum would exceed 256"
+-- 8: "post or open: the audit's last sum would exceed 256"
 abbrev pub noRoomToOpen : Card → ℕ → Settings → List Side → Bool
 noRoomToOpen card p st a = exceeds (card .slots) (claims a) p (record { share = st .share; held = 0 })
 
+-- 8: "post: held + new slots exceeds the ceiling", or that
 abbrev pub noRoom : Card → ℕ → Post → List Side → Bool
 noRoom card p m a =
     let s = sideAt a p in

@@ -3,36 +3,28 @@ use mathlib.Core.Bool.{Bool, true, false, not, _&&_}
 use Prim.Native.Nat.{ℕ}
 use lib.Dec.{ltb, eqb}
 use lib.ListN.{length, getD}
-use Rattle.psn.specs.Psn.{distance, before}
+use Rattle.psn.specs.Psn.{before}
 use Rattle.refusal.specs.Choice.{if_then_else_}
 use Rattle.rules.specs.declared.Packet.{Packet}
 use Rattle.rules.specs.declared.Settings.{Settings}
 use Rattle.rules.specs.declared.Clock.{Clock}
 use Rattle.rules.specs.declared.Standing.{Standing}
-use Rattle.rules.specs.Account.{Side, moved, noPacket, ahead}
-use Rattle.rules.specs.Message.{isRead, span}
-
--- the further of x and y, by distance from u
-abbrev pub further : ℕ → ℕ → ℕ → ℕ
-further u x y = if before u x y then y else x
+use Rattle.rules.specs.Account.{Side, moved, further, noPacket, ahead}
+use Rattle.rules.specs.Message.{isRead, unanswered}
 
 -- "both retry counts return to their settings and elapsed time to 0"
 abbrev pub renewed : Settings → Clock → Clock
 renewed s c = record { retries = s .retry; rnrs = s .rnr; elapsed = 0; hold = c .hold }
 
--- "if U moved", from u to a
+-- the same "If U moved", from u to a
 abbrev pub clockAt : ℕ → ℕ → Settings → Clock → Clock
-clockAt a u s c = if eqb a u then c else renewed s c
+clockAt u a s c = if eqb a u then c else renewed s c
 
 -- U becomes a. "If U moved, both retry counts return to their settings and elapsed time to 0. X becomes the further of X and U."
 abbrev pub advanced : ℕ → Standing → Standing
 advanced a t =
     let l = t .line in
-    moved (record { u = a; x = further (l .u) (l .x) a; h = l .h; n = l .n }) (clockAt a (l .u) (t .settings) (t .clock)) t
-
--- a read's first unanswered PSN: U, where U is one of its PSNs
-abbrev pub unanswered : Standing → Packet → ℕ
-unanswered t p = if ltb (distance (p .psn) (t .line .u)) (span (t .settings) p) then t .line .u else p .psn
+    moved (record { u = a; x = further (l .u) (l .x) a; h = l .h; n = l .n }) (clockAt (l .u) a (t .settings) (t .clock)) t
 
 -- a read whose first unanswered PSN is before B
 abbrev pub passedBy : ℕ → Standing → Packet → Bool
@@ -48,8 +40,8 @@ pub record Release : Type 0 where
 unfoldable pub release : ℕ → Side → Release
 release b s =
     let t = s .standing in
-    let reads = ahead (passedBy b t) (s .packets) in
-    let sends = ahead (λ p. not (before (t .line .u) (p .psn) b)) (s .packets) in
-    if ltb reads (length (s .packets))
-    then record { stopped = true; released = reads; standing = advanced (unanswered t (getD (s .packets) reads noPacket)) t }
-    else record { stopped = false; released = sends; standing = advanced b t }
+    let toRead = ahead (passedBy b t) (s .packets) in
+    let beforeB = ahead (λ p. not (before (t .line .u) (p .psn) b)) (s .packets) in
+    if ltb toRead (length (s .packets))
+    then record { stopped = true; released = toRead; standing = advanced (unanswered t (getD (s .packets) toRead noPacket)) t }
+    else record { stopped = false; released = beforeB; standing = advanced b t }

@@ -9,10 +9,10 @@ use Rattle.rules.specs.declared.Packet.{Packet}
 use Rattle.rules.specs.declared.Settings.{Settings}
 use Rattle.rules.specs.declared.Standing.{Standing}
 use Rattle.rules.specs.declared.Answer.the-variants.{Done}
-use Rattle.rules.specs.Account.{Side, U, moved, noPacket, ahead}
+use Rattle.rules.specs.Account.{Side, U, moved, further, noPacket, ahead}
 use Rattle.rules.specs.Message.{pmtu, lengthAt, isRead, span}
 use Rattle.rules.specs.Outcome.{Outcome, dropped}
-use Rattle.rules.specs.Release.{further, renewed, release}
+use Rattle.rules.specs.Release.{renewed, release}
 use Rattle.rules.specs.Acknowledge.{inside, resending}
 
 -- r is one of the read's PSNs

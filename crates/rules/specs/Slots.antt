@@ -57,20 +57,20 @@ abbrev pub heldBy : List Pair → ℕ
 heldBy [] = 0
 heldBy (p ∷ ps) = p .queue .held + heldBy ps
 
-abbrev pub idle : Tables → Queue
-idle t = record { first = t .ends .first; last = t .ends .last; held = length (t .slots) - heldBy (t .pairs) }
+abbrev pub freeRecord : Tables → Queue
+freeRecord t = record { first = t .ends .first; last = t .ends .last; held = length (t .slots) - heldBy (t .pairs) }
 
 abbrev pub free : Tables → List ℕ
-free t = spelled (t .slots) (idle t)
+free t = spelled (t .slots) (freeRecord t)
 
 -- how often a number stands in a list
 abbrev pub times : ℕ → List ℕ → ℕ
 times i [] = 0
 times i (a ∷ l) = (if eqb i a then 1 else 0) + times i l
 
-abbrev pub join : List (List ℕ) → List ℕ
-join [] = []
-join (l ∷ ls) = l ++ join ls
+abbrev pub concat : List (List ℕ) → List ℕ
+concat [] = []
+concat (l ∷ ls) = l ++ concat ls
 
 -- ---- a pair's side of the account, read off the tables
 

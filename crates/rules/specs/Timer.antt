@@ -9,7 +9,7 @@ use Rattle.rules.specs.declared.Answer.{Answer}
 use Rattle.rules.specs.declared.Answer.the-variants.{Resending, Resumed, Idle}
 use Rattle.rules.specs.Account.{Side, U, H, moved}
 use Rattle.rules.specs.Outcome.{Outcome, staying, ending}
-use Rattle.rules.specs.Acknowledge.{resent}
+use Rattle.rules.specs.Acknowledge.{backToU}
 
 -- "4,096 × 2^code ns"
 abbrev pub timeoutOf : Settings → ℕ
@@ -22,7 +22,7 @@ ticked a elapsed hold t =
 
 -- "take one, X becomes U, elapsed 0, "resending""
 abbrev pub retried : Standing → Outcome
-retried t = staying Resending (resent (t .clock .retries - 1) (t .clock .rnrs) (t .clock .hold) t)
+retried t = staying Resending (backToU (t .clock .retries - 1) (t .clock .rnrs) (t .clock .hold) t)
 
 -- "Held: if e is at least the hold, it ends, "resumed"; else subtract, "idle". Not held: if U = H or timeout code 0, "idle". Else add e; if below
 -- 4,096 × 2^code ns, "idle"; else if the retry count is 0, end the pair, "ended"; else take one, X becomes U, elapsed 0, "resending"."

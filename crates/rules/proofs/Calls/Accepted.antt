@@ -16,8 +16,8 @@ use Rattle.rules.specs.Message.{psnsFor}
 use Rattle.rules.specs.Ranges.{overCeiling}
 use Rattle.rules.specs.Acknowledge.{inside}
 use Rattle.rules.specs.Response.{unfit}
-use Rattle.rules.specs.Requests.{Request, lent, needed}
 use Rattle.rules.specs.Refusals.{sideAt, ofOpening, ofPost, ofResponse, wrongState, outOfRange, anyRead, noRoomToOpen, noRoom, refusals}
+use Rattle.rules.specs.Requests.{Request, lent, needed}
 
 pub record Accepted (card : Card) (q : Request) (p : ℕ) (a : List Side) : Type 0 where
   pub pair : p < card .pairs

@@ -11,15 +11,15 @@ use Rattle.rules.specs.Card.{Card}
 use Rattle.rules.specs.Account.{Side}
 use Rattle.rules.specs.Slots.{Tables, sides}
 use Rattle.rules.specs.Audit.{Audit}
-use Rattle.rules.proofs.Passes.Decided.{complete}
-use Rattle.rules.specs.Requests.{Call, starting, on}
-use Rattle.rules.specs.Refusals.{refusals}
 use Rattle.rules.specs.Calls.{Step, account, call}
+use Rattle.rules.specs.History.{Run, run}
+use Rattle.rules.specs.Refusals.{refusals}
+use Rattle.rules.specs.Requests.{Call, starting, on}
+use Rattle.rules.proofs.Passes.Decided.{complete}
 use Rattle.refusal.specs.Refusals.{firstGiven}
 use Rattle.rules.proofs.Calls.Accepted.{accepted}
 use Rattle.rules.proofs.Calls.Moves.{moved, accepted-audit}
 use Rattle.rules.proofs.Calls.Fresh.{fresh-sides, fresh-audit}
-use Rattle.rules.specs.History.{Run, run}
 
 pub refused-inj : {m n : ℕ} → Refused m ≡ Refused n → m ≡ n
 refused-inj e = cc

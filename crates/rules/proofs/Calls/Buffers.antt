@@ -14,19 +14,19 @@ use Rattle.wire.specs.Bytes.{bytes}
 use Rattle.wire.proofs.Writing.{bytes-whole}
 use Rattle.rules.specs.Card.{Card}
 use Rattle.rules.specs.Account.{Side}
-use Rattle.rules.specs.Outcome.{Outcome, completed, closure}
+use Rattle.rules.specs.Emission.{waiting, going, outgoing, sent, headerOf, recordBytes, emission, emissions}
+use Rattle.rules.specs.Outcome.{Outcome, departures, completions, closingAll}
 use Rattle.rules.specs.Acknowledge.{acknowledge}
 use Rattle.rules.specs.Response.{response}
 use Rattle.rules.specs.Timer.{timer}
-use Rattle.rules.specs.Emission.{waiting, going, outgoing, sent, headerOf, recordBytes, emission, emissions}
 use Rattle.rules.specs.Slots.{Tables, sides}
+use Rattle.rules.specs.Calls.{overlaid, effect, call}
 use Rattle.rules.specs.Passes.Tables.{passes}
-use Rattle.rules.proofs.Passes.Decided.{sound}
-use Rattle.rules.specs.Requests.{Request, opening, posting, emitting, acknowledging, responding, ticking, closing, on, lent}
 use Rattle.rules.specs.Refusals.{sideAt, refusals}
-use Rattle.rules.specs.Calls.{written, effect, call}
+use Rattle.rules.specs.Requests.{Request, opening, posting, emitting, acknowledging, responding, ticking, closing, on, lent}
+use Rattle.rules.proofs.Passes.Decided.{sound}
 use Rattle.refusal.specs.Refusals.{firstGiven}
-use Rattle.rules.proofs.Calls.Completions.{completed-most}
+use Rattle.rules.proofs.Calls.Completions.{completions-most}
 use Rattle.rules.proofs.Ranges.{in-range}
 use Rattle.rules.proofs.Calls.Accepted.{Accepted, accepted, is-ready}
 use Rattle.rules.proofs.Calls.Well.{Well}
@@ -34,7 +34,7 @@ use Rattle.rules.proofs.Calls.Moves.{well-of}
 
 -- ---- emissions
 
-length-written : (new old : List ℕ) → length new ≤ length old → length (written new old) ≡ length old
+length-written : (new old : List ℕ) → length new ≤ length old → length (overlaid new old) ≡ length old
 length-written new old h = omega (arith, length-append new (drop (length new) old), length-drop (length new) old)
 
 going-most : (budget : ℕ) (s : Side) → going budget s ≤ budget
@@ -60,11 +60,11 @@ module _ (card : Card) (a : List Side) (w : Well card a) (p : ℕ) where
   ready : not (eqb (sideAt a p .standing .state) 1) ≡ false → sideAt a p .standing .state ≡ 1
   ready e = is-ready e
 
-  events : (o : Outcome) (b : List ℕ) → p < card .pairs → 0 < sideAt a p .standing .state → ltb (length b) (2 * (card .slots)) ≡ false → length (written (completed o (sideAt a p)) b) ≡ length b
+  events : (o : Outcome) (b : List ℕ) → p < card .pairs → 0 < sideAt a p .standing .state → ltb (length b) (2 * (card .slots)) ≡ false → length (overlaid (completions (departures (o .released) (o .flushed) (sideAt a p .packets))) b) ≡ length b
   events o b hp up long =
       let f = w .good p hp .bounded up in
-      length-written (completed o (sideAt a p)) b
-      (omega (arith, ltb-false (length b) (2 * (card .slots)) long, completed-most o (sideAt a p), f .held, in-range (f .settings) .ceiling))
+      length-written (completions (departures (o .released) (o .flushed) (sideAt a p .packets))) b
+      (omega (arith, ltb-false (length b) (2 * (card .slots)) long, completions-most (o .released) (o .flushed) (sideAt a p .packets), f .held, in-range (f .settings) .ceiling))
 
   pub buffer-kept : (q : Request) → Accepted card q p a → length (effect q (sideAt a p) .buffer) ≡ length (lent q)
   buffer-kept (opening st psn) h = refl
@@ -82,7 +82,7 @@ module _ (card : Card) (a : List Side) (w : Well card a) (p : ℕ) where
   buffer-kept (acknowledging r y b) h = events (acknowledge r y (sideAt a p)) b (h .pair) (omega (arith, ready (h .state))) (h .buffer)
   buffer-kept (responding r o l b) h = events (response r (sideAt a p)) b (h .pair) (omega (arith, ready (h .state))) (h .buffer)
   buffer-kept (ticking e b) h = events (timer e (sideAt a p)) b (h .pair) (omega (arith, ready (h .state))) (h .buffer)
-  buffer-kept (closing b) h = events (closure (sideAt a p)) b (h .pair) (omega (arith, eqb-false (sideAt a p .standing .state) 0 (h .state))) (h .buffer)
+  buffer-kept (closing b) h = events (closingAll (sideAt a p)) b (h .pair) (omega (arith, eqb-false (sideAt a p .standing .state) 0 (h .state))) (h .buffer)
 
 -- whatever the tables, a call leaves the buffer as long as it was
 pub call-buffer : (card : Card)

@@ -10,9 +10,9 @@ use Rattle.rules.specs.Card.{Card}
 use Rattle.rules.specs.Account.{Side}
 use Rattle.rules.specs.Slots.{Tables, side, sides}
 use Rattle.rules.specs.Audit.{Audit}
-use Rattle.rules.specs.Requests.{Request, Call, on}
-use Rattle.rules.specs.Refusals.{sideAt, refusals}
 use Rattle.rules.specs.Calls.{effect, sideAfter, Step, account, call}
+use Rattle.rules.specs.Refusals.{sideAt, refusals}
+use Rattle.rules.specs.Requests.{Request, Call, on}
 use Rattle.refusal.specs.Refusals.{firstGiven}
 use Rattle.rules.proofs.Calls.Well.{side-same, side-other}
 use Rattle.rules.proofs.Calls.Moves.{side-at, well-of}

@@ -20,11 +20,11 @@ use Rattle.rules.specs.Acknowledge.{inside, acknowledge}
 use Rattle.rules.specs.Response.{response}
 use Rattle.rules.specs.Slots.{Tables, pairAt, sideOf, side, sides, freed}
 use Rattle.rules.specs.Audit.{Whole}
-use Rattle.rules.specs.Passes.Tables.{passes}
-use Rattle.rules.proofs.Passes.Decided.{sound}
-use Rattle.rules.specs.Requests.{acknowledging, responding, on}
-use Rattle.rules.specs.Refusals.{sideAt, refusals}
 use Rattle.rules.specs.Calls.{call}
+use Rattle.rules.specs.Passes.Tables.{passes}
+use Rattle.rules.specs.Refusals.{sideAt, refusals}
+use Rattle.rules.specs.Requests.{acknowledging, responding, on}
+use Rattle.rules.proofs.Passes.Decided.{sound}
 use Rattle.refusal.specs.Refusals.{firstGiven}
 use Rattle.rules.proofs.Slots.Freed.{freed-none}
 use Rattle.rules.proofs.Calls.Moves.{side-at}

@@ -12,11 +12,11 @@ use Rattle.rules.specs.declared.Slot.{Slot}
 use Rattle.rules.specs.Card.{Card}
 use Rattle.rules.specs.Account.{Side, noSide}
 use Rattle.rules.specs.Message.{from}
-use Rattle.rules.specs.Slots.{noPair, noSlot, pairAt, spelled, heldBy, idle, free, queue, queues, join, times, sideOf, sides, Below, endsOf, Spells, fresh}
+use Rattle.rules.specs.Slots.{noPair, noSlot, pairAt, spelled, heldBy, freeRecord, free, queue, queues, concat, times, sideOf, sides, Below, endsOf, Spells, fresh}
 use Rattle.rules.specs.Pool.{claimed, claims}
 use Rattle.rules.specs.Audit.{Whole, Audit}
-use Rattle.rules.specs.Refusals.{sideAt}
 use Rattle.rules.specs.Calls.{allClosed}
+use Rattle.rules.specs.Refusals.{sideAt}
 use Rattle.rules.proofs.Slots.Links.{Distinct, times-same, times-other, length-chain, spelled-is, spells-chain}
 use Rattle.rules.proofs.Slots.Disjoint.{each-once}
 use Rattle.rules.proofs.Sides.Good.{length-from, good-closed}
@@ -61,7 +61,7 @@ module _ (card : Card) where
   held-none zero = refl
   held-none (suc n) = omega (arith, held-none n)
 
-  queues-none : (s : List Slot) (n : ℕ) → join (map (λ q. spelled s (q .queue)) (replicate n shut)) ≡ []
+  queues-none : (s : List Slot) (n : ℕ) → concat (map (λ q. spelled s (q .queue)) (replicate n shut)) ≡ []
   unfolding shut
   queues-none s zero = refl
   queues-none s (suc n) = queues-none s n
@@ -83,7 +83,7 @@ module _ (card : Card) where
   unfolding fresh
   count = length-chain (card .none) (from 0 (card .slots)) (replicate (card .slots) noSlot) ∙ length-replicate (card .slots) noSlot
 
-  pub free-runs : Spells (card .none) (fresh card .slots) (idle (fresh card)) (from 0 (card .slots))
+  pub free-runs : Spells (card .none) (fresh card .slots) (freeRecord (fresh card)) (from 0 (card .slots))
   unfolding fresh shut
   free-runs =
       let c = spells-chain (card .none) (from 0 (card .slots)) (replicate (card .slots) noSlot) (distinct-from 0 (card .slots)) (below-from _ 0 (card .slots) (omega (arith, length-replicate (card .slots) noSlot))) in
@@ -100,7 +100,7 @@ module _ (card : Card) where
   unfolding shut
   nothing-spelled s = record { first = refl; last = refl; held = refl; linked = tt; below = tt }
 
-  none-held : join (queues (fresh card)) ≡ []
+  none-held : concat (queues (fresh card)) ≡ []
   unfolding fresh shut
   none-held = queues-none (fresh card .slots) (card .pairs)
 
@@ -118,7 +118,7 @@ module _ (card : Card) where
         once = λ i h.
             rw (fresh-free, none-held, append-nil (from 0 (card .slots)))
             (each-once (card .slots) (from 0 (card .slots)) (distinct-from 0 (card .slots)) (below-from (card .slots) 0 (card .slots) (omega arith)) (length-from 0 (card .slots)) i h);
-        idle-empty = λ p h n. rw (fresh-pair p h) shut-empty;
+        others-empty = λ p h n. rw (fresh-pair p h) shut-empty;
       }
 
   pub fresh-audit : Audit card (fresh card)

@@ -1,6 +1,6 @@
 -- The ledger of a pair: what was accepted is what was released and what is held, and the tickets told are those of the messages released.
 use mathlib.Core.Path.{_≡_, refl, sym, ap, _∙_}
-use mathlib.Core.List.{List, [], _∷_, _++_, append-assoc, append-nil}
+use mathlib.Core.List.{List, [], _∷_, _++_, map, map-append, append-assoc, append-nil}
 use Prim.Native.Nat.{ℕ, zero, suc, _+_, _<_}
 use native.Mathlib.Omega.{arith}
 use lib.Dec.{eqb}
@@ -10,14 +10,18 @@ use Rattle.refusal.proofs.Cases.{by-test, if-case}
 use Rattle.rules.specs.declared.Packet.{Packet}
 use Rattle.rules.specs.Card.{Card}
 use Rattle.rules.specs.Account.{Side, noSide}
-use Rattle.rules.specs.Requests.{Request, Call, starting, on}
+use Rattle.rules.specs.Calls.{Move, leaves, joins, effect, packetsAfter, sideAfter, Step, allClosed, account}
+use Rattle.rules.specs.Outcome.{Departure, departures, completions}
+use Rattle.rules.specs.History.{run, Ledger, blank, accepts, departs, heard, entered, entry, ledgerFrom}
 use Rattle.rules.specs.Refusals.{sideAt, refusals}
-use Rattle.rules.specs.Calls.{Move, leave, join as joins, effect, packetsAfter, sideAfter, Step, allClosed, account}
+use Rattle.rules.specs.Requests.{Request, Call, starting, on}
 use Rattle.refusal.specs.Refusals.{firstGiven}
-use Rattle.rules.proofs.Calls.Completions.{lasts-append, reads-gone}
+use Rattle.rules.proofs.Calls.Completions.{packets-departed, completions-append, heard-departed}
 use Rattle.rules.proofs.Calls.Accepted.{accepted}
 use Rattle.rules.proofs.Calls.Well.{side-same, side-other}
-use Rattle.rules.specs.History.{run, Ledger, blank, reads, lasts, accepts, releases, entered, entry, ledgerFrom}
+
+abbrev packetsOf : List Departure → List Packet
+packetsOf ds = map (λ (d : Departure). d .packet) ds
 
 closed-at : (n p : ℕ) → sideAt (replicate n noSide) p ≡ noSide
 unfolding sideAt
@@ -26,25 +30,32 @@ closed-at (suc n) zero = refl
 closed-at (suc n) (suc p) = closed-at n p
 
 module _ (card : Card) where
-  -- ---- the ledgerFrom
-
   module _ (p : ℕ) where
-    -- accepted is released and held, and what was told is what was released
+    -- accepted is what left and what is held, and what was told are the completions of what left
     pub record Balanced (l : Ledger) (a : List Side) : Type 0 where
       pub count : length a ≡ card .pairs
-      pub held : l .accepted ≡ l .released ++ sideAt a p .packets
-      pub told : l .tickets ≡ lasts (l .released)
+      pub held : l .accepted ≡ packetsOf (l .departed) ++ sideAt a p .packets
+      pub told : l .told ≡ completions (l .departed)
 
-    moved-balanced : (m : Move) (acc rel ps : List Packet) → acc ≡ rel ++ ps → acc ++ accepts m ≡ (rel ++ releases m ps) ++ packetsAfter m ps
-    moved-balanced (leave k) acc rel ps e = append-nil acc ∙ rw (append-assoc rel (take k ps) (drop k ps), take-append-drop k ps) e
-    moved-balanced (joins qs) acc rel ps e = rw (append-nil rel, ← append-assoc rel ps qs) (ap (λ (x : List Packet). x ++ qs) e)
+    moved-balanced : (m : Move) (acc : List Packet) (ds : List Departure) (ps : List Packet) → acc ≡ packetsOf ds ++ ps
+        → acc ++ accepts m ≡ packetsOf (ds ++ departs m ps) ++ packetsAfter m ps
+    moved-balanced (leaves r f) acc ds ps e =
+        append-nil acc ∙ e
+        ∙ ap (λ (x : List Packet). packetsOf ds ++ x) (sym (take-append-drop (r + f) ps))
+        ∙ sym (append-assoc (packetsOf ds) (take (r + f) ps) (drop (r + f) ps))
+        ∙ ap (λ (x : List Packet). (packetsOf ds ++ x) ++ drop (r + f) ps) (sym (packets-departed r f ps))
+        ∙ ap (λ (x : List Packet). x ++ drop (r + f) ps) (sym (map-append (λ (d : Departure). d .packet) ds (departures r f ps)))
+    moved-balanced (joins qs) acc ds ps e =
+        ap (λ (x : List Packet). x ++ qs) e
+        ∙ append-assoc (packetsOf ds) ps qs
+        ∙ ap (λ (x : List Departure). packetsOf x ++ (ps ++ qs)) (sym (append-nil ds))
 
-    entered-balanced : (q : Request) (s : Side) (l : Ledger) → l .tickets ≡ lasts (l .released)
-        → entered (effect q s) (s .packets) l .tickets ≡ lasts (entered (effect q s) (s .packets) l .released)
+    entered-balanced : (q : Request) (s : Side) (l : Ledger) → l .told ≡ completions (l .departed)
+        → entered (effect q s) (s .packets) l .told ≡ completions (entered (effect q s) (s .packets) l .departed)
     entered-balanced q s l e =
-        ap (λ (x : List ℕ). x ++ reads (effect q s .reply) (effect q s .buffer)) e
-        ∙ ap (λ (x : List ℕ). lasts (l .released) ++ x) (reads-gone q s)
-        ∙ sym (lasts-append (l .released) (releases (effect q s .move) (s .packets)))
+        ap (λ (x : List ℕ). x ++ heard (effect q s .reply) (effect q s .buffer)) e
+        ∙ ap (λ (x : List ℕ). completions (l .departed) ++ x) (heard-departed q s)
+        ∙ sym (completions-append (l .departed) (departs (effect q s .move) (s .packets)))
 
     entry-balanced : (c : Call) (a : List Side) (l : Ledger) → Balanced l a → Balanced (entry card p c a l) (account card c a .next)
     unfolding entry account
@@ -59,7 +70,7 @@ module _ (card : Card) where
         rw e (record {
           count = length-set a p _ ∙ b .count;
           held = rw (side-same a p (sideAfter (effect q (sideAt a p)) (sideAt a p)) low)
-              (moved-balanced (effect q (sideAt a p) .move) (l .accepted) (l .released) (sideAt a p .packets) (b .held));
+              (moved-balanced (effect q (sideAt a p) .move) (l .accepted) (l .departed) (sideAt a p .packets) (b .held));
           told = entered-balanced q (sideAt a p) l (b .told);
         }))
         (λ e. rw e b)))

@@ -12,16 +12,17 @@ use Rattle.refusal.proofs.Cases.{by-test}
 use Rattle.rules.specs.declared.Packet.{Packet}
 use Rattle.rules.specs.declared.Standing.{Standing}
 use Rattle.rules.specs.declared.Slot.{Slot}
+use Rattle.rules.specs.declared.Post.{Post}
 use Rattle.rules.specs.declared.Pair.{Pair}
 use Rattle.rules.specs.Card.{Card}
 use Rattle.rules.specs.Account.{Side, noSide, N}
-use Rattle.rules.specs.Message.{slotsFor}
+use Rattle.rules.specs.Message.{slotsFor, packetsOf}
 use Rattle.rules.specs.Slots.{Tables, noPair, slotAt, pairAt, spelled, heldBy, free, queue, sideOf, side, sides, freed, stored}
 use Rattle.rules.specs.Pool.{Claim, claimed, claimOf, claims}
 use Rattle.rules.specs.Audit.{Whole, Audit}
-use Rattle.rules.specs.Requests.{Request, opening, posting, emitting, acknowledging, responding, ticking, closing}
+use Rattle.rules.specs.Calls.{Move, leaves, joins, effect, sideAfter, packetsAfter, tablesAfter}
 use Rattle.rules.specs.Refusals.{sideAt}
-use Rattle.rules.specs.Calls.{Move, leave, join, effect, sideAfter, packetsAfter, tablesAfter}
+use Rattle.rules.specs.Requests.{Request, opening, posting, emitting, acknowledging, responding, ticking, closing}
 use Rattle.rules.proofs.Sides.InOrder.{in-order, ordered}
 use Rattle.rules.proofs.Slots.Queues.{all-slots, length-follow}
 use Rattle.rules.proofs.Slots.Freed.{freed-side, freed-others, freed-whole}
@@ -74,7 +75,7 @@ unfolding side sideOf
 idle-side card t w p h n =
     length-map (queue t p) (λ (i : ℕ). slotAt (t .slots) i .packet)
     ∙ length-follow (t .slots) (pairAt (t .pairs) p .queue .first) (pairAt (t .pairs) p .queue .held)
-    ∙ w .idle-empty p h n
+    ∙ w .others-empty p h n
 
 module _ (card : Card) (t : Tables) where
   -- ---- the audit, as the tables' and the account's part
@@ -117,8 +118,10 @@ module _ (card : Card) (t : Tables) where
       pub same : sides (tablesAfter (card .none) p st m t) ≡ set (sides t) p (record { standing = st; packets = packetsAfter m (sideAt (sides t) p .packets) })
       pub whole : Whole card (tablesAfter (card .none) p st m t)
 
-    moved-leave : (st : Standing) (k : ℕ) → Good card (record { standing = st; packets = drop k (sideAt (sides t) p .packets) }) → Moved st (leave k)
-    moved-leave st k g =
+    moved-leave : (st : Standing) (released flushed : ℕ) → Good card (record { standing = st; packets = drop (released + flushed) (sideAt (sides t) p .packets) })
+        → Moved st (leaves released flushed)
+    moved-leave st released flushed g =
+        let k = released + flushed in
         let v = freed-whole card t w p hp st k (λ n. omega (arith, rw (side-at t p) at (g .idle n), length-drop k (side t p .packets), side-length t p)) in
         record {
           same =
@@ -129,7 +132,7 @@ module _ (card : Card) (t : Tables) where
           whole = v;
         }
 
-    moved-join : (st : Standing) (qs : List Packet) → st .state ≡ 1 → length qs ≤ length (free t) → Moved st (join qs)
+    moved-join : (st : Standing) (qs : List Packet) → st .state ≡ 1 → length qs ≤ length (free t) → Moved st (joins qs)
     moved-join st qs e room =
         let v = stored-whole card t w p hp st qs room e in
         record {
@@ -149,7 +152,7 @@ module _ (card : Card) (t : Tables) where
         (omega (arith, length-map (sides t) claimOf, length-map (t .pairs) (sideOf (t .slots)), w .pair-records))
         (e ∙ sym (ap (λ (x : Claim). x .held + new) (claim-at (sides t) p ∙ claim-open (sideAt (sides t) p) o)))
         l
-        (omega (arith, all-slots card t w, holding-is (t .slots) (t .pairs) (λ i h. w .idle-empty i (omega (arith, w .pair-records)))))
+        (omega (arith, all-slots card t w, holding-is (t .slots) (t .pairs) (λ i h. w .others-empty i (omega (arith, w .pair-records)))))
 
   module _ (a : Audit card t) (p : ℕ) (hp : p < card .pairs) where
     kept : (q : Request) → Accepted card q p (sides t) → Good card (sideAfter (effect q (sideAt (sides t) p)) (sideAt (sides t) p))
@@ -157,21 +160,27 @@ module _ (card : Card) (t : Tables) where
         rw (side-same (sides t) p (sideAfter (effect q (sideAt (sides t) p)) (sideAt (sides t) p)) (omega (arith, well-of card t a .count)))
         at (well-accepted card (sides t) (well-of card t a) p hp q h .good p hp)
 
-    pub moved : (q : Request) → Accepted card q p (sides t)
-        → Moved (a .whole) p hp (effect q (sideAt (sides t) p) .standing) (effect q (sideAt (sides t) p) .move)
-    moved (opening st psn) h = moved-leave (a .whole) p hp _ 0 (kept (opening st psn) h)
-    moved (posting m) h =
+    -- what a post stores finds as many slots free
+    pub post-fits : (m : Post) → Accepted card (posting m) p (sides t)
+        → length (packetsOf (sideAt (sides t) p .standing .settings) m (N (sideAt (sides t) p))) ≤ length (free t)
+    post-fits m h =
         let s = sideAt (sides t) p in
         let st = s .standing .settings in
         let ready : s .standing .state ≡ 1 = is-ready (h .state) in
-        let room = room-for (a .whole) p hp (record { share = st .share; held = length (s .packets) + slotsFor st m }) (slotsFor st m) (omega arith) refl
-        (has-room (card .slots) (st .ceiling) (claims (sides t)) p (record { share = st .share; held = length (s .packets) + slotsFor st m }) (h .room) .1) in
-        moved-join (a .whole) p hp _ _ (posted-state m s ∙ ready) (omega (arith, length-packets st m (N s)))
-    moved (emitting budget b) h = moved-leave (a .whole) p hp _ 0 (kept (emitting budget b) h)
-    moved (acknowledging r y b) h = moved-leave (a .whole) p hp _ _ (kept (acknowledging r y b) h)
-    moved (responding r o l b) h = moved-leave (a .whole) p hp _ _ (kept (responding r o l b) h)
-    moved (ticking e b) h = moved-leave (a .whole) p hp _ _ (kept (ticking e b) h)
-    moved (closing b) h = moved-leave (a .whole) p hp _ _ (kept (closing b) h)
+        let after : Claim = record { share = st .share; held = length (s .packets) + slotsFor st m } in
+        let room = room-for (a .whole) p hp after (slotsFor st m) (omega arith) refl (has-room (card .slots) (st .ceiling) (claims (sides t)) p after (h .room) .1) in
+        omega (arith, length-packets st m (N s))
+
+    pub moved : (q : Request) → Accepted card q p (sides t)
+        → Moved (a .whole) p hp (effect q (sideAt (sides t) p) .standing) (effect q (sideAt (sides t) p) .move)
+    moved (opening st psn) h = moved-leave (a .whole) p hp _ 0 0 (kept (opening st psn) h)
+    moved (posting m) h =
+        moved-join (a .whole) p hp _ _ (posted-state m (sideAt (sides t) p) ∙ is-ready (h .state)) (post-fits m h)
+    moved (emitting budget b) h = moved-leave (a .whole) p hp _ 0 0 (kept (emitting budget b) h)
+    moved (acknowledging r y b) h = moved-leave (a .whole) p hp _ _ _ (kept (acknowledging r y b) h)
+    moved (responding r o l b) h = moved-leave (a .whole) p hp _ _ _ (kept (responding r o l b) h)
+    moved (ticking e b) h = moved-leave (a .whole) p hp _ _ _ (kept (ticking e b) h)
+    moved (closing b) h = moved-leave (a .whole) p hp _ _ _ (kept (closing b) h)
 
     -- an accepted request: audited after, and the account's sides
     pub accepted-audit : (q : Request) → Accepted card q p (sides t)

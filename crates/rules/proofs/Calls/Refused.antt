@@ -14,11 +14,11 @@ use Rattle.rules.specs.Card.{Card}
 use Rattle.rules.specs.Account.{Side}
 use Rattle.rules.specs.Slots.{Tables, sides}
 use Rattle.rules.specs.Audit.{Audit}
-use Rattle.rules.specs.Passes.Tables.{passes}
-use Rattle.rules.proofs.Passes.Decided.{sound, complete}
-use Rattle.rules.specs.Requests.{Request, opening, posting, emitting, acknowledging, responding, ticking, closing, starting, on, lent}
-use Rattle.rules.specs.Refusals.{sideAt, refusals}
 use Rattle.rules.specs.Calls.{effect, refuse, call}
+use Rattle.rules.specs.Passes.Tables.{passes}
+use Rattle.rules.specs.Refusals.{sideAt, refusals}
+use Rattle.rules.specs.Requests.{Request, opening, posting, emitting, acknowledging, responding, ticking, closing, starting, on, lent}
+use Rattle.rules.proofs.Passes.Decided.{sound, complete}
 use Rattle.refusal.specs.Refusals.{Line, _gives_, firstGiven}
 use Rattle.rules.proofs.Calls.Agrees.{refused-inj}
 

@@ -1,27 +1,28 @@
--- The room clause: within its share a post is refused by none but 1 to 7.
+-- The room clause: within its share a post is refused by none but 1 to 7, and where none of those holds it is accepted.
 use mathlib.Core.Path.{_≡_, ap, _∙_}
 use mathlib.Core.Bool.{false, _&&_}
 use Prim.Native.Nat.{ℕ, _+_, _≤_, _<_}
 use native.Mathlib.Omega.{arith}
 use lib.Dec.{eqb, ltb, leb}
-use borrow.Author.Tests.{leb-false}
+use borrow.Author.Tests.{leb-false, le-ltb, lt-leb, eq-eqb}
 use lib.ListN.{length, getD, length-map}
 use Rattle.refusal.proofs.Cases.{by-test, if-case}
 use Rattle.rules.specs.declared.Post.{Post}
 use Rattle.psn.specs.Psn.{half, distance}
-use Rattle.rules.specs.declared.Reply.the-variants.{Refused}
+use Rattle.rules.specs.declared.Reply.the-variants.{Refused, First}
 use Rattle.rules.specs.Card.{Card}
-use Rattle.rules.specs.Account.{noSide, U, N}
+use Rattle.rules.specs.Account.{Side, noSide, U, N}
 use Rattle.rules.specs.Message.{slotsFor, psnsFor}
 use Rattle.rules.specs.Ranges.{badPost, overCeiling}
 use Rattle.rules.specs.Slots.{Tables, queue, side, sides}
 use Rattle.rules.specs.Pool.{Claim, claimOf, claims}
 use Rattle.rules.specs.Audit.{Audit}
-use Rattle.rules.proofs.Passes.Decided.{complete}
-use Rattle.rules.specs.Requests.{posting, on}
-use Rattle.rules.specs.Refusals.{sideAt, wrongState, anyRead, noRoom, refusals}
 use Rattle.rules.specs.Calls.{call}
+use Rattle.rules.specs.Refusals.{sideAt, wrongState, anyRead, noRoom, refusals}
+use Rattle.rules.specs.Requests.{posting, on}
+use Rattle.rules.proofs.Passes.Decided.{complete}
 use Rattle.refusal.specs.Refusals.{firstGiven}
+use Rattle.rules.specs.Demands.{WithinShare}
 use Rattle.rules.proofs.Ranges.{in-range}
 use Rattle.rules.proofs.Pool.{within-share}
 use Rattle.rules.proofs.Calls.Accepted.{is-ready}
@@ -59,11 +60,28 @@ module _ (card : Card) where
         if-case (λ (n : ℕ). n ≤ 7) (ltb half (distance (U s) (N s) + psnsFor st m)) (λ _. omega arith) (λ _.
         rw (within (leb-false (card .pairs) p hp) (rw (side-at t p) at (is-ready {x = s .standing .state} ready)) l) (omega arith)))))))
 
-    pub room : length (queue t p) + slotsFor (side t p .standing .settings) m ≤ side t p .standing .settings .share
+    -- whatever else is wrong with the post, it is not refused for room
+    pub none-but-seven : length (queue t p) + slotsFor (side t p .standing .settings) m ≤ side t p .standing .settings .share
         → (n : ℕ) → call card (on p (posting m)) t .said .reply ≡ Refused n → n ≤ 7
     unfolding call
-    room l n =
+    none-but-seven l n =
         rw (complete card t a)
         (by-test (eqb (firstGiven (refusals card (posting m) p (sides t))) 0)
         (λ e. rw e (λ q. let z : _≡_ {A = ℕ} 0 1 = cc in absurd (omega arith)))
         (λ e. rw e (λ q. omega (arith, number l, refused-inj q))))
+
+    -- and if nothing else is, it is accepted
+    given-none : WithinShare card t p m → firstGiven (refusals card (posting m) p (sides t)) ≡ 0
+    given-none w =
+        let st = side t p .standing .settings in
+        let held = length (side t p .packets) in
+        let high = in-range (a .bounded p (w .pair) (omega (arith, w .is-ready)) .settings) .share-high in
+        let small : overCeiling st m ≡ false = le-ltb (st .ceiling) (slotsFor st m) (omega (arith, w .share)) in
+        let close : ltb half (distance (U (side t p)) (N (side t p)) + psnsFor st m) ≡ false = le-ltb half _ (w .near) in
+        let is : sideAt (sides t) p ≡ side t p = side-at t p in
+        let room : noRoom card p m (sides t) ≡ false = within (w .pair) (w .is-ready) (w .share) in
+        rw (lt-leb (card .pairs) p (w .pair), room, is, eq-eqb (side t p .standing .state) 1 (w .is-ready), w .in-range, small, w .unfenced, close)
+
+    pub room : WithinShare card t p m → call card (on p (posting m)) t .said .reply ≡ First (N (side t p))
+    unfolding call
+    room w = rw (complete card t a, given-none w) (ap (λ (s : Side). First (N s)) (side-at t p))

@@ -19,9 +19,9 @@ use Rattle.rules.specs.Ranges.{badSettings, badPsn}
 use Rattle.rules.specs.Posting.{posted}
 use Rattle.rules.specs.Emission.{emitted}
 use Rattle.rules.specs.Pool.{Claim, claimed, claimOf, claims}
-use Rattle.rules.specs.Requests.{Request, opening, posting, emitting, acknowledging, responding, ticking, closing}
-use Rattle.rules.specs.Refusals.{sideAt}
 use Rattle.rules.specs.Calls.{effect, sideAfter}
+use Rattle.rules.specs.Refusals.{sideAt}
+use Rattle.rules.specs.Requests.{Request, opening, posting, emitting, acknowledging, responding, ticking, closing}
 use Rattle.rules.proofs.Pool.{claimed-set, has-room}
 use Rattle.rules.proofs.Calls.Accepted.{Accepted, is-ready}
 use Rattle.rules.proofs.Sides.Good.{Good, Follows, claim-open, length-packets, good-closed, good-opened, good-acknowledge, good-timer, good-response, good-emitted, good-posted}

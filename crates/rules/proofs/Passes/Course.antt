@@ -16,9 +16,9 @@ use Rattle.psn.specs.Psn.{psns, half, distance}
 use Rattle.refusal.specs.Choice.{if_then_else_}
 use Rattle.rules.specs.Message.{span}
 use Rattle.rules.specs.Order.{_or_, left, right, Past, Start}
-use Rattle.rules.proofs.Sides.InOrder.{RunsLow, StartsLow, InOrder}
 use Rattle.rules.specs.Passes.Course.{courseFrom, astray, onward, firstFits, nextFits, courseStep, stands, lineFits, courseEnds}
 use Rattle.rules.specs.Passes.Tests.{_and_}
+use Rattle.rules.proofs.Sides.InOrder.{RunsLow, StartsLow, InOrder}
 use Rattle.refusal.proofs.Cases.{by-test}
 use Rattle.rules.proofs.Passes.Tests.{both, joined}
 

@@ -17,7 +17,7 @@ use Rattle.rules.specs.declared.Queue.{Queue}
 use Rattle.rules.specs.declared.Slot.{Slot}
 use Rattle.rules.specs.declared.carried.Tally.{Tally}
 use Rattle.rules.specs.Card.{Card}
-use Rattle.rules.specs.Slots.{Tables, pairAt, spelled, times, join, queues, heldBy, idle, free, sideOf, side, sides, Below}
+use Rattle.rules.specs.Slots.{Tables, pairAt, spelled, times, concat, queues, heldBy, freeRecord, free, sideOf, side, sides, Below}
 use Rattle.rules.specs.Pool.{claimed, claims}
 use Rattle.rules.specs.Audit.{Audit}
 use Rattle.rules.specs.Passes.Links.{linksPass}
@@ -93,7 +93,7 @@ module _ (card : Card) (t : Tables) where
   ofPairs = map (entryOf card (t .slots)) (t .pairs)
 
   abbrev ofFree : Entry
-  ofFree = record { passed = linksPass (card .none) (t .slots) (idle t); queue = idle t; claim = 0 }
+  ofFree = record { passed = linksPass (card .none) (t .slots) (freeRecord t); queue = freeRecord t; claim = 0 }
 
   abbrev entries : List Entry
   entries = ofPairs ++ (ofFree ∷ [])
@@ -102,17 +102,17 @@ module _ (card : Card) (t : Tables) where
   asked-all =
       asked-more ofPairs ofFree ∙ omega arith ∙ asked-is card (t .slots) (t .pairs) ∙ ap claimed (sym (claims-of (t .slots) (t .pairs)))
 
-  times-all : (i : ℕ) → times i (join (lists (card .none) (t .slots) entries)) ≡ times i (free t ++ join (queues t))
+  times-all : (i : ℕ) → times i (concat (lists (card .none) (t .slots) entries)) ≡ times i (free t ++ concat (queues t))
   times-all i =
       times-more (card .none) (t .slots) i ofPairs ofFree
-      ∙ ap (λ (l : List (List ℕ)). times i (join l) + times i (free t)) (lists-are card (t .slots) (t .pairs))
-      ∙ omega (arith, times-append i (free t) (join (queues t)))
+      ∙ ap (λ (l : List (List ℕ)). times i (concat l) + times i (free t)) (lists-are card (t .slots) (t .pairs))
+      ∙ omega (arith, times-append i (free t) (concat (queues t)))
 
   count-pairs : pairsTally card t .ok ≡ true → Counted (card .slots) (tallyFrom (card .slots)) ofPairs
   count-pairs ok = counted (card .slots) (tallyFrom (card .slots)) ofPairs refl (none-room (card .slots)) ok
 
   -- what the pairs leave is the free queue
-  left-is : length (t .slots) ≡ card .slots → pairsTally card t .ok ≡ true → leftover (card .slots) t (pairsTally card t) ≡ idle t
+  left-is : length (t .slots) ≡ card .slots → pairsTally card t .ok ≡ true → leftover (card .slots) t (pairsTally card t) ≡ freeRecord t
   left-is ns ok = λ j. record { first = t .ends .first; last = t .ends .last; held = held j }
     where
       held : (card .slots) - pairsTally card t .held ≡ length (t .slots) - heldBy (t .pairs)
@@ -130,7 +130,7 @@ module _ (card : Card) (t : Tables) where
       (λ p l.
       pair-passes card (t .slots) (pairAt (t .pairs) p) .0
       (at-pair (entryOf card (t .slots)) Passed (t .pairs) (each-front Passed ofPairs ofFree h) p l) .spells))
-      (spells-passes (card .none) (t .slots) (idle t) .0 (each-back Passed ofPairs ofFree h))
+      (spells-passes (card .none) (t .slots) (freeRecord t) .0 (each-back Passed ofPairs ofFree h))
 
   pub sound : passes card t ≡ true → Audit card t
   unfolding passes side sideOf
@@ -141,9 +141,9 @@ module _ (card : Card) (t : Tables) where
               pair-records = np;
               slot-records = ns;
               pairs-run = λ p l. right p l .spells;
-              free-runs = spells-passes (card .none) (t .slots) (idle t) .0 (each-back Passed ofPairs ofFree (c .passed));
+              free-runs = spells-passes (card .none) (t .slots) (freeRecord t) .0 (each-back Passed ofPairs ofFree (c .passed));
               once = once;
-              idle-empty = λ p l n. sym (held-of p) ∙ right p l .good .idle n;
+              others-empty = λ p l n. sym (held-of p) ∙ right p l .good .idle n;
             };
         states = λ p l. right p l .good .state;
         bounded = λ p l. right p l .good .bounded;
@@ -186,13 +186,13 @@ module _ (card : Card) (t : Tables) where
             ns,
           )
 
-      once : (i : ℕ) → i < card .slots → times i (free t ++ join (queues t)) ≡ 1
+      once : (i : ℕ) → i < card .slots → times i (free t ++ concat (queues t)) ≡ 1
       once i l =
           sym (times-all i)
           ∙ once-of (card .none) (t .slots) (card .slots) (lists (card .none) (t .slots) entries) (all-linked (card .none) (t .slots) entries runs)
           (all-below (card .none) (t .slots) (omega (arith, ns, card .apart)) entries runs)
           (lasts-of (card .none) (t .slots) entries runs (c .differ))
-          (subst (λ (n : ℕ). Below n (join (lists (card .none) (t .slots) entries))) ns (join-below (card .none) (t .slots) entries runs))
+          (subst (λ (n : ℕ). Below n (concat (lists (card .none) (t .slots) entries))) ns (join-below (card .none) (t .slots) entries runs))
           (join-length (card .none) (t .slots) entries ∙ sum) i l
 
   pub complete : Audit card t → passes card t ≡ true
@@ -225,19 +225,19 @@ module _ (card : Card) (t : Tables) where
           (λ p l.
           let k : p < card .pairs = omega (arith, np, l) in
           pair-passes card (t .slots) (pairAt (t .pairs) p) .1 (record { spells = a .whole .pairs-run p k; good = good p k })))
-          (spells-passes (card .none) (t .slots) (idle t) .1 (a .whole .free-runs))
+          (spells-passes (card .none) (t .slots) (freeRecord t) .1 (a .whole .free-runs))
 
       runs : Each (Runs (card .none) (t .slots)) entries
       runs = runs-of passed
 
-      once : (i : ℕ) → i < card .slots → times i (join (lists (card .none) (t .slots) entries)) ≡ 1
+      once : (i : ℕ) → i < card .slots → times i (concat (lists (card .none) (t .slots) entries)) ≡ 1
       once i l = times-all i ∙ a .whole .once i l
 
       sum : total entries ≡ card .slots
       sum = omega (arith, total-more ofPairs ofFree, total-is card (t .slots) (t .pairs), all-slots card t (a .whole), ns, length-free)
         where
-          length-free : length (free t) ≡ idle t .held
-          length-free = length-follow (t .slots) (idle t .first) (idle t .held)
+          length-free : length (free t) ≡ freeRecord t .held
+          length-free = length-follow (t .slots) (freeRecord t .first) (freeRecord t .held)
 
       new : Each (New (card .slots) (tallyFrom (card .slots) .words)) entries
       new =

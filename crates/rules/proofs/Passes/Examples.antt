@@ -14,16 +14,16 @@ use Rattle.rules.specs.declared.Slot.{Slot}
 use Rattle.rules.specs.declared.Post.{Post}
 use Rattle.psn.specs.Psn.{distance}
 use Rattle.rules.specs.Card.{Card}
-use Rattle.rules.specs.Ranges.{badSettings, badPost}
 use Rattle.rules.specs.Account.{noPacket}
 use Rattle.rules.specs.Message.{packetsOf}
+use Rattle.rules.specs.Ranges.{badSettings, badPost}
 use Rattle.rules.specs.Slots.{Tables, slotAt, relinked, holding, filled, chain, endsOf, fresh}
-use Rattle.rules.specs.Passes.Tests.{_and_}
 use Rattle.rules.specs.Passes.Links.{linksPass}
 use Rattle.rules.specs.Passes.Queue.{queuePasses}
 use Rattle.rules.specs.Passes.Record.{recordPasses}
 use Rattle.rules.specs.Passes.Stage.{same, allowedTo, single, opens, closes, goesOn}
 use Rattle.rules.specs.Passes.Tables.{has, put, noneOf, pairPasses, passes}
+use Rattle.rules.specs.Passes.Tests.{_and_}
 
 settings : Settings
 settings = record { far = 7; pkey = 65535; pmtu = 1; share = 4; ceiling = 4; retry = 7; rnr = 7; timeout = 14 }

@@ -10,7 +10,7 @@ use lib.ListN.{length, length-append}
 use Rattle.refusal.specs.Choice.{Each}
 use Rattle.refusal.proofs.Cases.{by-test}
 use Rattle.rules.specs.declared.Slot.{Slot}
-use Rattle.rules.specs.Slots.{spelled, times, join, Below, lastOf, Linked, Spells}
+use Rattle.rules.specs.Slots.{spelled, times, concat, Below, lastOf, Linked, Spells}
 use Rattle.rules.specs.Passes.Tables.{Entry}
 use Rattle.rules.proofs.Slots.Links.{times-append, times-last, times-other, below-append}
 use Rattle.rules.proofs.Slots.Queues.{length-follow}
@@ -39,16 +39,16 @@ module _ (none : ℕ) (s : List Slot) where
   all-below h [] k = tt
   all-below h (e ∷ es) k = (below-up (length s) none h (list e) (k .0 .below), all-below h es (k .1))
 
-  pub join-below : (es : List Entry) → Each Runs es → Below (length s) (join (lists es))
+  pub join-below : (es : List Entry) → Each Runs es → Below (length s) (concat (lists es))
   join-below [] h = tt
-  join-below (e ∷ es) h = below-append (length s) (list e) (join (lists es)) (h .0 .below) (join-below es (h .1))
+  join-below (e ∷ es) h = below-append (length s) (list e) (concat (lists es)) (h .0 .below) (join-below es (h .1))
 
   list-length : (e : Entry) → length (list e) ≡ e .queue .held
   list-length e = length-follow s (e .queue .first) (e .queue .held)
 
-  pub join-length : (es : List Entry) → length (join (lists es)) ≡ total es
+  pub join-length : (es : List Entry) → length (concat (lists es)) ≡ total es
   join-length [] = refl
-  join-length (e ∷ es) = length-append (list e) (join (lists es)) ∙ (λ j. list-length e j + join-length es j)
+  join-length (e ∷ es) = length-append (list e) (concat (lists es)) ∙ (λ j. list-length e j + join-length es j)
 
   no-last : (z : ℕ) (es : List Entry) → Each Runs es → Each (NotLast z) es → NoLast none z (lists es)
   no-last z [] h k p l some q = absurd (not-suc-le-zero l)
@@ -81,24 +81,24 @@ module _ (none : ℕ) (s : List Slot) where
   pub last-low : (e : Entry) → Runs e → 0 < e .queue .held → e .queue .last < length s
   last-low e r h = in-below (length s) (e .queue .last) (list e) (r .below) (last-in e r h)
 
-  not-last : (z : ℕ) (es : List Entry) → Each Runs es → times z (join (lists es)) ≡ 0 → Each (NotLast z) es
+  not-last : (z : ℕ) (es : List Entry) → Each Runs es → times z (concat (lists es)) ≡ 0 → Each (NotLast z) es
   not-last z [] h k = tt
   not-last z (e ∷ es) h k = (
-    λ some q. omega (arith, k, times-append z (list e) (join (lists es)), subst (λ (x : ℕ). 1 ≤ times x (list e)) (sym q) (last-in e (h .0) some)),
-    not-last z es (h .1) (omega (arith, k, times-append z (list e) (join (lists es)))),
+    λ some q. omega (arith, k, times-append z (list e) (concat (lists es)), subst (λ (x : ℕ). 1 ≤ times x (list e)) (sym q) (last-in e (h .0) some)),
+    not-last z es (h .1) (omega (arith, k, times-append z (list e) (concat (lists es)))),
   )
 
-  pub differ-of : (es : List Entry) → Each Runs es → ((i : ℕ) → i < length s → times i (join (lists es)) ≤ 1) → Differ es
+  pub differ-of : (es : List Entry) → Each Runs es → ((i : ℕ) → i < length s → times i (concat (lists es)) ≤ 1) → Differ es
   differ-of [] h d = tt
   differ-of (e ∷ es) h d = (
     λ some.
         let z = e .queue .last in
-        not-last z es (h .1) (omega (arith, d z (last-low e (h .0) some), times-append z (list e) (join (lists es)), last-in e (h .0) some)),
-    differ-of es (h .1) (λ i l. omega (arith, d i l, times-append i (list e) (join (lists es)))),
+        not-last z es (h .1) (omega (arith, d z (last-low e (h .0) some), times-append z (list e) (concat (lists es)), last-in e (h .0) some)),
+    differ-of es (h .1) (λ i l. omega (arith, d i l, times-append i (list e) (concat (lists es)))),
   )
 
   -- one queue more
-  pub times-more : (i : ℕ) (es : List Entry) (e : Entry) → times i (join (lists (es ++ (e ∷ [])))) ≡ times i (join (lists es)) + times i (list e)
+  pub times-more : (i : ℕ) (es : List Entry) (e : Entry) → times i (concat (lists (es ++ (e ∷ [])))) ≡ times i (concat (lists es)) + times i (list e)
   times-more i [] e = times-append i (list e) [] ∙ omega arith
   times-more i (x ∷ es) e =
-      omega (arith, times-append i (list x) (join (lists (es ++ (e ∷ [])))), times-append i (list x) (join (lists es)), times-more i es e)
+      omega (arith, times-append i (list x) (concat (lists (es ++ (e ∷ [])))), times-append i (list x) (concat (lists es)), times-more i es e)

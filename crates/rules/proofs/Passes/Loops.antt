@@ -16,10 +16,10 @@ use Rattle.rules.specs.declared.carried.Walk.{Walk}
 use Rattle.rules.specs.declared.carried.Tally.{Tally}
 use Rattle.rules.specs.Card.{Card}
 use Rattle.rules.specs.Slots.{Tables, slotAt, pairAt}
-use Rattle.rules.specs.Passes.Tests.{_and_}
 use Rattle.rules.specs.Passes.Links.{trailFrom, trailStep, trailEnds, trailed, linksPass}
 use Rattle.rules.specs.Passes.Queue.{queuePasses, walkFrom, step, walked, walkEnds}
 use Rattle.rules.specs.Passes.Tables.{Entry, entryOf, tallyFrom, tallyStep, tallied, freeEntry, pairsTally, passes}
+use Rattle.rules.specs.Passes.Tests.{_and_}
 use Rattle.rules.proofs.Passes.Stop.{stray, stray-links}
 
 -- one queue: a slot is looked at, and one fewer is left

@@ -19,10 +19,10 @@ use Rattle.rules.specs.declared.Slot.{Slot}
 use Rattle.rules.specs.Card.{Card}
 use Rattle.rules.specs.Message.{span}
 use Rattle.rules.specs.Slots.{slotAt, spelled, sideOf, Spells}
-use Rattle.rules.proofs.Sides.InOrder.{RunsLow, StartsLow}
-use Rattle.rules.specs.Messages.{Remaining, none-left}
+use Rattle.rules.specs.WholeMessages.{Remaining, none-left}
 use Rattle.rules.specs.Passes.Record.{recordPasses}
 use Rattle.rules.specs.Passes.Tables.{pairPasses}
+use Rattle.rules.proofs.Sides.InOrder.{RunsLow, StartsLow}
 use Rattle.rules.proofs.Slots.Queues.{length-follow}
 use Rattle.rules.proofs.Sides.Good.{Good}
 use Rattle.rules.proofs.Passes.Tests.{both, joined}

@@ -14,12 +14,12 @@ use Rattle.rules.specs.declared.Slot.{Slot}
 use Rattle.rules.specs.declared.carried.Stage.the-variants.{Start}
 use Rattle.rules.specs.declared.carried.Walk.{Walk}
 use Rattle.rules.specs.Slots.{slotAt, follow, spelled, Spells}
-use Rattle.rules.proofs.Sides.InOrder.{InOrder}
-use Rattle.rules.specs.Messages.{Remaining}
+use Rattle.rules.specs.WholeMessages.{Remaining}
 use Rattle.rules.specs.Passes.Course.{courseFrom, courseEnds}
 use Rattle.rules.specs.Passes.Links.{trailEnds, trailed, linksPass}
 use Rattle.rules.specs.Passes.Queue.{walkFrom, step, walked, queuePasses}
 use Rattle.rules.specs.Passes.Stage.{stageEnds}
+use Rattle.rules.proofs.Sides.InOrder.{InOrder}
 use Rattle.refusal.proofs.Cases.{by-test}
 use Rattle.rules.proofs.Passes.Tests.{both, joined}
 use Rattle.rules.proofs.Passes.Links.{spells-passes}

@@ -13,8 +13,8 @@ use Rattle.psn.specs.Psn.{psns}
 use Rattle.rules.specs.declared.Packet.{Packet}
 use Rattle.rules.specs.declared.Standing.{Standing}
 use Rattle.rules.specs.Card.{Card}
-use Rattle.rules.specs.Ranges.{badSettings}
 use Rattle.rules.specs.Account.{Side}
+use Rattle.rules.specs.Ranges.{badSettings}
 use Rattle.rules.specs.Timer.{timeoutOf}
 use Rattle.rules.specs.Audit.{Bounded, longestHold, Timed}
 use Rattle.rules.specs.Passes.Record.{boundTests, timedTests, recordPasses}

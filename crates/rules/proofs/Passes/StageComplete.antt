@@ -17,8 +17,8 @@ use Rattle.psn.specs.Psn.{psns, plus}
 use Rattle.refusal.specs.Choice.{if_then_else_}
 use Rattle.wire.specs.Opcodes.{hasReth, hasImmediate}
 use Rattle.rules.specs.Message.{pmtu, packetsFor, isRead, from, opcodeAt, lengthAt, made, packetAt, packetsOf}
-use Rattle.rules.specs.Messages.{Allowed, Messages, no-more, message, Remaining, none-left, rear}
-use Rattle.rules.specs.Passes.Stage.{alone, single, heading, opened, opens, newMessage, inner, isRear, behind, stageStep, stageEnds}
+use Rattle.rules.specs.WholeMessages.{Allowed, Messages, no-more, message, Remaining, none-left, rear}
+use Rattle.rules.specs.Passes.Stage.{alone, single, heading, begun, opens, newMessage, inner, isRear, behind, stageStep, stageEnds}
 use Rattle.refusal.proofs.Cases.{by-test, if-case}
 use Rattle.rules.proofs.Sides.Order.{packets-pos}
 use Rattle.rules.proofs.Ranges.{permitted, allow}
@@ -85,7 +85,7 @@ module _ (s : Settings) (m : Post) (kd : m .kind ≤ 1) (first : ℕ) where
         (joined (le-leb (6 * m .kind) 6 (omega arith))
         (same-self (made (6 * m .kind) m (plus first 0) (m .offset) (pmtu s)) _ (head-self (m .kind) kd (plus first 0) (m .offset) (pmtu s) (omega arith))))
 
-    a-stands : Stands s m kd first 1 (opened a)
+    a-stands : Stands s m kd first 1 (begun a)
     a-stands =
         record {
           kind = omega (arith, op);
@@ -108,7 +108,7 @@ module _ (s : Settings) (m : Post) (kd : m .kind ≤ 1) (first : ℕ) where
     a-opcode : a .opcode ≡ 6 * m .kind
     a-opcode = ap (λ (q : Packet). q .opcode) a-is
 
-    a-fresh : newMessage s a ≡ Inside (opened a)
+    a-fresh : newMessage s a ≡ Inside (begun a)
     a-fresh = rw (not-single s a (ne-eqb (a .opcode) 12 (λ e. omega (arith, a-opcode, e))) (omega (arith, a-opcode)), a-opens)
 
   -- ---- a message of one record
@@ -278,7 +278,7 @@ module _ (s : Settings) where
         front = not-rear q (λ x y z. omega (arith, x, a-opcode s m kd first many));
         runs =
             ap (λ (x : Stage). run s x (map (packetAt s m first) (from 1 (suc j)) ++ rest)) (a-fresh s m kd first many)
-            ∙ inner-complete s m kd first allowed rest j 1 (opened q) (a-stands s m kd first many) (omega (arith, size));
+            ∙ inner-complete s m kd first allowed rest j 1 (begun q) (a-stands s m kd first many) (omega (arith, size));
       }
     where
       q : Packet

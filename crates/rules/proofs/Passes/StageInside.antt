@@ -19,8 +19,8 @@ use Rattle.psn.specs.Psn.{plus}
 use Rattle.refusal.specs.Choice.{if_then_else_}
 use Rattle.wire.specs.Opcodes.{hasReth, hasImmediate}
 use Rattle.rules.specs.Message.{pmtu, packetsFor, from, opcodeAt, lengthAt, made, packetAt, packetsOf}
-use Rattle.rules.specs.Messages.{Allowed}
-use Rattle.rules.specs.Passes.Stage.{postOf, more, middle, ended, closes, goesOn, inner}
+use Rattle.rules.specs.WholeMessages.{Allowed}
+use Rattle.rules.specs.Passes.Stage.{postOf, more, middle, wholePost, closes, goesOn, inner}
 use Rattle.rules.specs.Passes.Tests.{_and_}
 use Rattle.refusal.proofs.Cases.{by-test, if-case}
 use Rattle.rules.proofs.Ranges.{permitted, allow}
@@ -134,7 +134,7 @@ module _ (s : Settings) (m : Post) (kd : m .kind ≤ 1) (first : ℕ) where
     z = packetAt s m first i
 
     m′ : Post
-    m′ = ended s w z
+    m′ = wholePost s w z
 
     z-length : z .length ≡ m .length - i * pmtu s
     unfolding z n
@@ -168,7 +168,7 @@ module _ (s : Settings) (m : Post) (kd : m .kind ≤ 1) (first : ℕ) where
           offset = omega (arith, permitted allowed .fits, st .offset, less, z-length, bounds);
           fits = omega (arith, permitted allowed .fits, st .offset, less, z-length, bounds);
           reach = λ k l. omega (arith, permitted allowed .reach (omega (arith, k, st .kind)) (omega (arith, bounds)), st .address, less, z-length, bounds);
-          room = omega (arith, length-packets s (ended s w z) 0, length-packets s m 0, slots-is s (ended s w z) (omega (arith, st .kind)) 0 ∙ last-size, slots-is s m kd 0, permitted allowed .room, h, st .most);
+          room = omega (arith, length-packets s (wholePost s w z) 0, length-packets s m 0, slots-is s (wholePost s w z) (omega (arith, st .kind)) 0 ∙ last-size, slots-is s m kd 0, permitted allowed .room, h, st .most);
         })
 
     z-value : (if hasImmediate (6 * m .kind + (2 + late m)) then m .value else 0) ≡ (if hasImmediate (6 * m .kind + (2 + late m)) then m′ .value else 0)

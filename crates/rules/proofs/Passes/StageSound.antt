@@ -18,8 +18,8 @@ use Rattle.refusal.specs.Choice.{if_then_else_}
 use Rattle.wire.specs.Opcodes.{hasReth, hasImmediate}
 use Rattle.rules.specs.Message.{pmtu, packetsFor, isRead, from, opcodeAt, lengthAt, made, packetAt, packetsOf}
 use Rattle.rules.specs.Ranges.{badPost}
-use Rattle.rules.specs.Messages.{Allowed, Messages, no-more, message, Remaining, none-left, rear}
-use Rattle.rules.specs.Passes.Stage.{same, alone, single, heading, postOf, opened, opens, newMessage, more, middle, ended, closes, goesOn, inner, isRear, behind, stageStep, stageEnds}
+use Rattle.rules.specs.WholeMessages.{Allowed, Messages, no-more, message, Remaining, none-left, rear}
+use Rattle.rules.specs.Passes.Stage.{same, alone, single, heading, postOf, begun, opens, newMessage, more, middle, wholePost, closes, goesOn, inner, isRear, behind, stageStep, stageEnds}
 use Rattle.refusal.proofs.Cases.{by-test}
 use Rattle.rules.proofs.Sides.Good.{length-packets, slots-pos}
 use Rattle.rules.proofs.Passes.Tests.{both, joined, same-true, allowed-of}
@@ -172,7 +172,7 @@ module _ (s : Settings) where
     last : (w : Begun) → (closes s w p ≡ true) × (stageEnds (run s Between ps) ≡ true) → Rest w (p ∷ ps)
     unfolding closes
     last w h =
-        let m = ended s w p in
+        let m = wholePost s w p in
         let a = both (h .0) in
         let b = both (a .1) in
         let d = both (b .1) in
@@ -224,16 +224,16 @@ module _ (s : Settings) where
     first-kind t = omega (arith, leb-true (p .opcode) 6 (both t .0))
 
     -- a First, once the rest of its message is there
-    first-is : opens s p ≡ true → (r : Rest (opened p) ps) → p ≡ packetAt s (keyed (p .key) (postOf (opened p) (r .immediate) (r .length) (r .value))) (p .psn) 0
+    first-is : opens s p ≡ true → (r : Rest (begun p) ps) → p ≡ packetAt s (keyed (p .key) (postOf (begun p) (r .immediate) (r .length) (r .value))) (p .psn) 0
     unfolding opens
     first-is t r =
         same-true p (made (6 * (p .opcode / 6)) (heading p) (p .psn % psns) (p .offset) (pmtu s)) (both t .1)
-        ∙ first-made (heading p) (keyed (p .key) (postOf (opened p) (r .immediate) (r .length) (r .value))) (p .psn)
+        ∙ first-made (heading p) (keyed (p .key) (postOf (begun p) (r .immediate) (r .length) (r .value))) (p .psn)
         (first-kind t) refl refl refl refl refl (omega (arith, r .size)) (λ k. r .told refl k)
 
-    first-message : opens s p ≡ true → Rest (opened p) ps → Messages s (p ∷ ps)
+    first-message : opens s p ≡ true → Rest (begun p) ps → Messages s (p ∷ ps)
     first-message t r =
-        let m = postOf (opened p) (r .immediate) (r .length) (r .value) in
+        let m = postOf (begun p) (r .immediate) (r .length) (r .value) in
         let n : suc (suc (r .left)) ≡ packetsFor (pmtu s) (r .length) = omega (arith, r .size) in
         message (keyed (p .key) m) (p .psn) (r .rest) (keyed-allowed (p .key) m (r .allowed))
         ((λ j. first-is t r j ∷ (r .split ∙ ap (λ (l : List Packet). l ++ r .rest) (keyed-rest (p .key) m (p .psn) (first-kind t) 1 (suc (r .left)) (omega arith) (omega (arith, n)))) j)
@@ -247,8 +247,8 @@ module _ (s : Settings) where
         (λ t.
         message (alone p) (p .psn) ps (single-allowed t) (ap (λ (l : List Packet). l ++ ps) (sym (single-split t))) (later .between (rw t at e)))
         (λ t.
-        let h = kept s (opens s p) (Inside (opened p)) ps (rw t at e) in
-        first-message (h .0) (later .inside (opened p) (first-kind (h .0)) (omega arith) (h .1)))
+        let h = kept s (opens s p) (Inside (begun p)) ps (rw t at e) in
+        first-message (h .0) (later .inside (begun p) (first-kind (h .0)) (omega arith) (h .1)))
 
   pub sound : (ps : List Packet) → Sound ps
   sound [] = record { between = λ e. no-more; inside = λ w k c e. absurd (false≢true e) }

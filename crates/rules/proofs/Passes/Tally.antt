@@ -11,8 +11,8 @@ use lib.ListN.{length}
 use Rattle.refusal.proofs.Each.{each-so, each-both}
 use Rattle.rules.specs.declared.carried.Tally.{Tally}
 use Rattle.refusal.specs.Choice.{if_then_else_, Each}
-use Rattle.rules.specs.Passes.Tests.{_and_}
 use Rattle.rules.specs.Passes.Tables.{has, put, Entry, failed, addClaim, addQueue, isNew, tallyFits, tallyStep, tallied}
+use Rattle.rules.specs.Passes.Tests.{_and_}
 use Rattle.refusal.proofs.Cases.{by-test}
 use Rattle.rules.proofs.Passes.Tests.{both, joined}
 use Rattle.rules.proofs.Passes.Bits.{has-put-same, has-put-other, length-put}

@@ -9,7 +9,7 @@ use Rattle.rules.specs.declared.Packet.{Packet}
 use Rattle.rules.specs.declared.Settings.{Settings}
 use Rattle.rules.specs.declared.Post.{Post}
 use Rattle.rules.specs.Ranges.{badPost, overCeiling}
-use Rattle.rules.specs.Messages.{Allowed}
+use Rattle.rules.specs.WholeMessages.{Allowed}
 use Rattle.rules.specs.Passes.Stage.{same, allowedTo}
 use Rattle.rules.specs.Passes.Tests.{_and_, allOf}
 

@@ -15,16 +15,17 @@ use Rattle.rules.specs.declared.Answer.{Answer}
 use Rattle.rules.specs.declared.Answer.the-variants.{Resending, Held}
 use Rattle.psn.specs.Psn.{psns, distance, plus}
 use Rattle.rules.specs.Account.{Side, U, H, ahead}
-use Rattle.rules.specs.Outcome.{Outcome, after}
+use Rattle.rules.specs.Outcome.{Outcome}
 use Rattle.rules.specs.Release.{passedBy, release, Release}
-use Rattle.rules.specs.Acknowledge.{resent, inside, ack, final, rnr, acknowledge}
+use Rattle.rules.specs.Acknowledge.{backToU, inside, ack, endedAfter, rnr, acknowledge}
 use Rattle.rules.specs.Order.{_or_, left, right}
+use Rattle.rules.proofs.Sides.After.{after}
 use Rattle.rules.proofs.Sides.InOrder.{InOrder}
 use Rattle.psn.proofs.Laws.{distance-same, distance-step}
 use Rattle.rules.proofs.Sides.Order.{ordered-release}
 
 pub ordered-resent : (t : Standing) (ps : List Packet) (retries rnrs hold : ℕ) → InOrder (record { standing = t; packets = ps })
-    → InOrder (record { standing = resent retries rnrs hold t; packets = ps })
+    → InOrder (record { standing = backToU retries rnrs hold t; packets = ps })
 ordered-resent t ps k l w o =
     record {
       u-low = o .u-low;
@@ -61,7 +62,7 @@ module _ (s : Side) (ready : s .standing .state ≡ 1) (o : InOrder s) where
 
     -- released before b, and X back at U
     pub again : (b : ℕ) → b < psns → distance (U s) b ≤ distance (U s) (H s) → (answer : Answer) (left wait : ℕ)
-        → Fine s (record { answer = answer; released = release b s .released; flushed = 0; standing = resent (release b s .standing .clock .retries) left wait (release b s .standing) })
+        → Fine s (record { answer = answer; released = release b s .released; flushed = 0; standing = backToU (release b s .standing .clock .retries) left wait (release b s .standing) })
     again b l e answer n wait =
         record {
           settings = release-keeps b .1;
@@ -77,7 +78,7 @@ module _ (s : Side) (ready : s .standing .state ≡ 1) (o : InOrder s) where
           fate = left (release-keeps (plus r 1) .0, rw add-zero (ordered-release s o (plus r 1) (omega arith) next-low));
         })
 
-    fine-end : Fine s (final r s)
+    fine-end : Fine s (endedAfter r s)
     fine-end = record { settings = release-keeps r .1; fate = right (refl, omega arith) }
 
     fine-rnr : (wait : ℕ) → Fine s (rnr r wait s)

@@ -18,13 +18,14 @@ use Rattle.rules.specs.declared.Answer.{Answer}
 use Rattle.rules.specs.declared.Answer.the-variants.{Done, Resending, Held, Resumed, Idle, Ended}
 use Rattle.rules.specs.Account.{Side, U, H, N, ended, ahead}
 use Rattle.rules.specs.Ranges.{topBits, lowBits}
-use Rattle.rules.specs.Outcome.{Outcome, leaving, dropped, ending}
+use Rattle.rules.specs.Outcome.{Outcome, dropped, ending}
 use Rattle.rules.specs.Release.{Release, release, advanced, passedBy}
-use Rattle.rules.specs.Acknowledge.{inside, resent, resending, final, waitOf, acknowledge}
+use Rattle.rules.specs.Acknowledge.{inside, backToU, resending, endedAfter, waitOf, acknowledge}
 use Rattle.rules.specs.Response.{atLast, taken, response}
 use Rattle.rules.specs.Timer.{ticked, retried, timeoutOf, timer}
 use Rattle.rules.specs.Order.{_or_, left, right}
 use Rattle.rules.specs.Requests.{wordOf}
+use Rattle.rules.proofs.Sides.After.{leaving}
 use Rattle.rules.proofs.Sides.Order.{ahead-most}
 
 -- "both retry counts return to their settings and elapsed time to 0"
@@ -76,7 +77,7 @@ abbrev delayed : ℕ → ℕ → Side → Outcome
 delayed r wait s =
     let g = release r s in
     let c = g .standing .clock in
-    record { answer = Held; released = g .released; flushed = 0; standing = resent (c .retries) (if counted s then c .rnrs - 1 else c .rnrs) wait (g .standing) }
+    record { answer = Held; released = g .released; flushed = 0; standing = backToU (c .retries) (if counted s then c .rnrs - 1 else c .rnrs) wait (g .standing) }
 
 abbrev answered : ℕ → ℕ → Side → Outcome
 answered r last s =
@@ -87,7 +88,7 @@ module _ (P : Outcome → Type 0) (s : Side) where
   -- what an acknowledgement may come to
   by-acknowledge : (r y : ℕ) → P (dropped s) → ((b : ℕ) → P (delivered (release b s))) → ((b : ℕ) → P (resending (release b s)))
       → ((wait : ℕ) → counted s && eqb (release r s .standing .clock .rnrs) 0 ≡ false → P (delayed r wait s))
-      → P (final r s) → P (acknowledge r y s)
+      → P (endedAfter r s) → P (acknowledge r y s)
   unfolding acknowledge
   by-acknowledge r y drop done again held end =
       if-case P (not (inside r s)) (λ _. drop) (λ _.

@@ -10,9 +10,8 @@ use Rattle.refusal.proofs.Cases.{if-case}
 use Rattle.rules.specs.declared.Packet.{Packet}
 use Rattle.rules.specs.declared.Settings.{Settings}
 use Rattle.psn.specs.Psn.{psns, half, distance, before}
-use Rattle.rules.specs.Account.{Side, U, X, H, N, ahead}
+use Rattle.rules.specs.Account.{Side, U, X, H, N, ahead, further}
 use Rattle.rules.specs.Message.{span}
-use Rattle.rules.specs.Release.{further}
 use Rattle.rules.specs.Emission.{ends, waiting, going, endsAt, emitted}
 use Rattle.rules.specs.Order.{_or_, left, right, Past, Start}
 use Rattle.rules.proofs.Sides.InOrder.{RunsLow, StartsLow, InOrder}

@@ -20,12 +20,11 @@ use Rattle.rules.specs.declared.Slot.{Slot}
 use Rattle.rules.specs.declared.Post.{Post}
 use Rattle.psn.specs.Psn.{distance}
 use Rattle.wire.specs.Opcodes.{hasReth}
-use Rattle.rules.specs.Message.{isRead, span, pmtu, packetsFor, from, opcodeAt, lengthAt, packetAt, packetsOf}
-use Rattle.rules.specs.Release.{unanswered}
+use Rattle.rules.specs.Message.{isRead, span, pmtu, packetsFor, from, opcodeAt, lengthAt, packetAt, packetsOf, unanswered}
 use Rattle.rules.specs.Slots.{Tables, slotAt, pairAt, spelled, sideOf, side}
 use Rattle.rules.specs.Pool.{Claim, claimOf, claims}
 use Rattle.rules.specs.Order.{_or_, left, right}
-use Rattle.rules.specs.Messages.{Allowed, Messages, no-more, message, Remaining, none-left, rear}
+use Rattle.rules.specs.WholeMessages.{Allowed, Messages, no-more, message, Remaining, none-left, rear}
 use Rattle.psn.proofs.Laws.{distance-same}
 use Rattle.rules.proofs.Slots.Queues.{length-follow}
 use Rattle.rules.proofs.Ranges.{Permitted, permitted}

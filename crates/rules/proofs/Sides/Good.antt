@@ -17,21 +17,21 @@ use Rattle.rules.specs.declared.Settings.{Settings}
 use Rattle.rules.specs.declared.Post.{Post}
 use Rattle.psn.specs.Psn.{psns, half, distance, before}
 use Rattle.rules.specs.Card.{Card}
-use Rattle.rules.specs.Account.{Side, noSide, U, H, N, ahead, noPacket}
-use Rattle.rules.specs.Ranges.{badSettings}
+use Rattle.rules.specs.Account.{Side, noSide, U, H, N, ahead, noPacket, further}
 use Rattle.rules.specs.Message.{isRead, span, pmtu, packetsFor, from, packetAt, packetsOf, slotsFor}
+use Rattle.rules.specs.Ranges.{badSettings}
 use Rattle.rules.specs.Posting.{posted}
-use Rattle.rules.specs.Outcome.{Outcome, after, opened}
-use Rattle.rules.specs.Release.{further}
+use Rattle.rules.specs.Emission.{emitted}
+use Rattle.rules.specs.Outcome.{Outcome, opened}
 use Rattle.rules.specs.Acknowledge.{inside, acknowledge}
 use Rattle.rules.specs.Response.{covers, readAt, unfit, response}
 use Rattle.rules.specs.Timer.{timer}
-use Rattle.rules.specs.Emission.{emitted}
 use Rattle.rules.specs.Pool.{claimOf}
 use Rattle.rules.specs.Order.{_or_, left, right}
-use Rattle.rules.proofs.Sides.InOrder.{InOrder}
-use Rattle.rules.specs.Messages.{Allowed, Messages, no-more, message, Remaining, none-left, rear}
+use Rattle.rules.specs.WholeMessages.{Allowed, Messages, no-more, message, Remaining, none-left, rear}
 use Rattle.rules.specs.Audit.{Bounded, Timed}
+use Rattle.rules.proofs.Sides.After.{after}
+use Rattle.rules.proofs.Sides.InOrder.{InOrder}
 use Rattle.psn.proofs.Laws.{distance-same}
 use Rattle.rules.proofs.Ranges.{in-range, permitted}
 use Rattle.rules.proofs.Sides.Order.{ahead-most, packets-pos}

@@ -25,7 +25,7 @@ use Rattle.rules.specs.Account.{U, X, ahead}
 use Rattle.rules.specs.Message.{psnsFor, opcodeAt, readRequest, packetAt, from, packetsOf, isRead, span}
 use Rattle.rules.specs.Emission.{ends, waiting, sent, padFor, headerOf}
 use Rattle.rules.specs.Slots.{Tables, side}
-use Rattle.rules.specs.Messages.{Messages, no-more, message, Remaining, none-left, rear}
+use Rattle.rules.specs.WholeMessages.{Messages, no-more, message, Remaining, none-left, rear}
 use Rattle.rules.specs.Audit.{Audit}
 use Rattle.rules.proofs.Ranges.{in-range, permitted}
 

@@ -9,8 +9,8 @@ use Rattle.rules.specs.declared.Packet.{Packet}
 use Rattle.rules.specs.Card.{Card}
 use Rattle.rules.specs.Account.{Side, U, X, H, N}
 use Rattle.rules.specs.Message.{span}
-use Rattle.rules.specs.Order.{Runs, Starts, Past, Stands, Ordered}
 use Rattle.rules.specs.Slots.{Tables, side}
+use Rattle.rules.specs.Order.{Runs, Starts, Past, Stands, Ordered}
 use Rattle.rules.specs.Audit.{Bounded, Audit}
 
 module _ (size : Packet → ℕ) where

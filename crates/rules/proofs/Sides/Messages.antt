@@ -12,7 +12,7 @@ use Rattle.rules.specs.declared.Packet.{Packet}
 use Rattle.rules.specs.declared.Settings.{Settings}
 use Rattle.rules.specs.declared.Post.{Post}
 use Rattle.rules.specs.Message.{packetsOf}
-use Rattle.rules.specs.Messages.{Allowed, Messages, no-more, message, Remaining, none-left, rear}
+use Rattle.rules.specs.WholeMessages.{Allowed, Messages, no-more, message, Remaining, none-left, rear}
 
 drop-past : (j : ℕ) (a b : List Packet) → length a ≤ j → drop j (a ++ b) ≡ drop (j - length a) b
 drop-past j a b h =

@@ -16,8 +16,8 @@ use Rattle.rules.specs.declared.Settings.{Settings}
 use Rattle.rules.specs.declared.Standing.{Standing}
 use Rattle.psn.specs.Psn.{psns, half, distance, before}
 use Rattle.rules.specs.Account.{Side, U, X, H, N, ahead, noPacket}
-use Rattle.rules.specs.Message.{isRead, span, pmtu, packetsFor}
-use Rattle.rules.specs.Release.{unanswered, passedBy, release, advanced}
+use Rattle.rules.specs.Message.{isRead, span, pmtu, packetsFor, unanswered}
+use Rattle.rules.specs.Release.{passedBy, release, advanced}
 use Rattle.rules.specs.Order.{_or_, left, right, Past, Start}
 use Rattle.rules.proofs.Sides.InOrder.{RunsLow, StartsLow, InOrder}
 use Rattle.psn.proofs.Laws.{distance-is, distance-same, distance-from, distance-zero}

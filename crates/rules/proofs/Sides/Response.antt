@@ -14,9 +14,9 @@ use Rattle.refusal.specs.Choice.{if_then_else_}
 use Rattle.rules.specs.declared.Packet.{Packet}
 use Rattle.rules.specs.declared.Answer.the-variants.{Resending}
 use Rattle.psn.specs.Psn.{psns, half, distance, plus, before}
-use Rattle.rules.specs.Account.{Side, U, X, H, N, ahead, noPacket}
-use Rattle.rules.specs.Message.{span}
-use Rattle.rules.specs.Release.{advanced, further, release, passedBy, unanswered}
+use Rattle.rules.specs.Account.{Side, U, X, H, N, ahead, noPacket, further}
+use Rattle.rules.specs.Message.{span, unanswered}
+use Rattle.rules.specs.Release.{advanced, release, passedBy}
 use Rattle.rules.specs.Acknowledge.{inside}
 use Rattle.rules.specs.Response.{covers, readAt, taken, response}
 use Rattle.rules.specs.Order.{_or_, left, right}

@@ -13,8 +13,8 @@ use Rattle.rules.specs.declared.Packet.{Packet}
 use Rattle.rules.specs.declared.Standing.{Standing}
 use Rattle.psn.specs.Psn.{psns, half, distance, before}
 use Rattle.rules.specs.Account.{Side, U, N, ahead}
-use Rattle.rules.specs.Message.{isRead, span}
-use Rattle.rules.specs.Release.{unanswered, passedBy, release}
+use Rattle.rules.specs.Message.{isRead, span, unanswered}
+use Rattle.rules.specs.Release.{passedBy, release}
 use Rattle.rules.specs.Order.{_or_, left, right}
 use Rattle.rules.proofs.Sides.InOrder.{RunsLow, InOrder}
 use Rattle.rules.proofs.Sides.Order.{runs-end, unanswered-is, halted, span-pos, Part, whole-or-part, none-passed, none-before}

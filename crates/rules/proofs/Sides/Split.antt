@@ -19,7 +19,7 @@ use Rattle.rules.specs.declared.Settings.{Settings}
 use Rattle.rules.specs.declared.Post.{Post}
 use Rattle.rules.specs.Account.{noPacket}
 use Rattle.rules.specs.Message.{pmtu, packetsFor, psnsFor, readRequest, lengthAt, made, packetAt, from, packetsOf, span, isLast}
-use Rattle.rules.specs.Outcome.{completions}
+use Rattle.rules.specs.Outcome.{leftWith, completions}
 use Rattle.rules.specs.Response.{differ}
 use Rattle.rules.specs.Order.{_or_, left, right}
 use Rattle.rules.proofs.Sides.Order.{packets-pos}
@@ -160,15 +160,15 @@ module _ (s : Settings) (m : Post) (first : ℕ) (plain : m .kind ≤ 1) where
   pub one-last : (i : ℕ) → i < psnsFor s m → isLast (packet i) ≡ eqb (suc i) (psnsFor s m)
   one-last i h = ap isLast (packet-is i h) ∙ last-is i h
 
-  completes : (status i k : ℕ) → i + suc k ≡ psnsFor s m → completions status (map (packetAt s m first) (from i (suc k))) ≡ m .ticket ∷ status ∷ []
+  completes : (status i k : ℕ) → i + suc k ≡ psnsFor s m → completions (leftWith status (map (packetAt s m first) (from i (suc k)))) ≡ m .ticket ∷ status ∷ []
   completes status i zero e = rw (last-is i (omega arith) ∙ eq-eqb (suc i) (psnsFor s m) (omega arith))
   completes status i (suc k) e =
       rw (last-is i (omega arith) ∙ ne-eqb (suc i) (psnsFor s m) (λ q. omega arith)) (completes status (suc i) k (omega arith))
 
-  split-completes : (status : ℕ) → completions status (packetsOf s m first) ≡ m .ticket ∷ status ∷ []
+  split-completes : (status : ℕ) → completions (leftWith status (packetsOf s m first)) ≡ m .ticket ∷ status ∷ []
   split-completes status =
       let some : psnsFor s m ≡ suc (psnsFor s m - 1) = omega (arith, packets-pos s (m .length)) in
-      ap (completions status) (whole-split ∙ ap (λ (n : ℕ). map (packetAt s m first) (from 0 n)) some)
+      ap (λ (l : List Packet). completions (leftWith status l)) (whole-split ∙ ap (λ (n : ℕ). map (packetAt s m first) (from 0 n)) some)
       ∙ completes status 0 (psnsFor s m - 1) (omega arith)
 
 -- ---- a read
@@ -192,8 +192,8 @@ module _ (s : Settings) (m : Post) (first : ℕ) where
   read-last = refl
 
 -- "each message yields its ticket, then its status, once"
-pub one-completion : (s : Settings) (m : Post) (first status : ℕ) → m .kind ≤ 2 → completions status (packetsOf s m first) ≡ m .ticket ∷ status ∷ []
+pub one-completion : (s : Settings) (m : Post) (first status : ℕ) → m .kind ≤ 2 → completions (leftWith status (packetsOf s m first)) ≡ m .ticket ∷ status ∷ []
 one-completion s m first status k =
     by-test (eqb (m .kind) 2)
-    (λ e. ap (completions status) (read-one s m first (eqb-true (m .kind) 2 e)))
+    (λ e. ap (λ (l : List Packet). completions (leftWith status l)) (read-one s m first (eqb-true (m .kind) 2 e)))
     (λ e. split-completes s m first (omega (arith, eqb-false (m .kind) 2 e)) status)

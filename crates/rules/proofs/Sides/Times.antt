@@ -15,13 +15,13 @@ use Rattle.rules.specs.declared.Standing.{Standing}
 use Rattle.psn.specs.Psn.{psns, distance, plus}
 use Rattle.rules.specs.Card.{Card}
 use Rattle.rules.specs.Account.{Side, U, H, N, ahead}
-use Rattle.rules.specs.Outcome.{Outcome, over}
+use Rattle.rules.specs.Outcome.{Outcome, endedStanding}
 use Rattle.rules.specs.Release.{release, Release, passedBy, advanced}
-use Rattle.rules.specs.Acknowledge.{inside, resent, ack, rnr, waits, acknowledge}
+use Rattle.rules.specs.Acknowledge.{inside, backToU, ack, rnr, waits, acknowledge}
 use Rattle.rules.specs.Response.{response}
 use Rattle.rules.specs.Timer.{timer, timeoutOf}
-use Rattle.rules.proofs.Sides.InOrder.{InOrder}
 use Rattle.rules.specs.Audit.{Bounded, Timed, longestHold}
+use Rattle.rules.proofs.Sides.InOrder.{InOrder}
 use Rattle.psn.proofs.Laws.{distance-step, distance-same}
 use Rattle.rules.proofs.Sides.Response.{clear}
 
@@ -88,13 +88,13 @@ module _ (card : Card) (s : Side) (ready : s .standing .state ≡ 1) (f : Bounde
       }
 
   -- X back at U, elapsed 0
-  back : (b rnrs hold : ℕ) → rnrs ≤ st .rnr → hold ≤ longestHold → Timely st (resent (release b s .standing .clock .retries) rnrs hold (release b s .standing))
+  back : (b rnrs hold : ℕ) → rnrs ≤ st .rnr → hold ≤ longestHold → Timely st (backToU (release b s .standing .clock .retries) rnrs hold (release b s .standing))
   back b n h l m = let c = counts b in calm (alive _ (c .state)) (c .retries) l m refl
 
-  as-was : (b : ℕ) → Timely st (resent (release b s .standing .clock .retries) (release b s .standing .clock .rnrs) (release b s .standing .clock .hold) (release b s .standing))
+  as-was : (b : ℕ) → Timely st (backToU (release b s .standing .clock .retries) (release b s .standing .clock .rnrs) (release b s .standing .clock .hold) (release b s .standing))
   as-was b = let c = counts b in back b _ _ (c .rnrs) (omega (arith, c .hold, w .hold))
 
-  finished : (b : ℕ) → Timely st (over (release b s .standing))
+  finished : (b : ℕ) → Timely st (endedStanding (release b s .standing))
   finished b =
       let c = counts b in
       let low = f .n-low in

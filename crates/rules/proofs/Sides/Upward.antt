@@ -18,8 +18,8 @@ use Rattle.rules.specs.Message.{isRead, span}
 use Rattle.rules.specs.Emission.{ends, waiting, sent}
 use Rattle.rules.specs.Slots.{Tables, side}
 use Rattle.rules.specs.Order.{_or_, left, right, Start}
-use Rattle.rules.proofs.Sides.InOrder.{RunsLow, StartsLow, InOrder, audited-order}
 use Rattle.rules.specs.Audit.{Audit}
+use Rattle.rules.proofs.Sides.InOrder.{RunsLow, StartsLow, InOrder, audited-order}
 use Rattle.psn.proofs.Laws.{distance-same, distance-step, distance-inj, distance-zero}
 use Rattle.rules.proofs.Ranges.{in-range}
 use Rattle.rules.proofs.Sides.Order.{runs-end, span-pos, unanswered-is}

@@ -12,7 +12,7 @@ use Rattle.refusal.proofs.Cases.{by-test}
 use Rattle.rules.specs.declared.Standing.{Standing}
 use Rattle.rules.specs.declared.Slot.{Slot}
 use Rattle.rules.specs.Card.{Card}
-use Rattle.rules.specs.Slots.{Tables, slotAt, pairAt, heldBy, idle, sideOf, times, join, queues, queue, free, side, Below, endsOf, chain, Spells, arranged}
+use Rattle.rules.specs.Slots.{Tables, slotAt, pairAt, heldBy, freeRecord, sideOf, times, concat, queues, queue, free, side, Below, endsOf, chain, Spells, arranged}
 use Rattle.rules.specs.Audit.{Whole}
 use Rattle.rules.proofs.Slots.Links.{Distinct, Apart, times-append, length-chain, chain-packet, linked-same, spelled-is, spells-chain, spells-apart, below-of}
 use Rattle.rules.proofs.Slots.Lists.{times-join-set, map-on}
@@ -61,7 +61,7 @@ module _ (card : Card) (t : Tables) (w : Whole card t) where
           all-slots card t w,
         )
 
-    pub free-after : Spells (card .none) (arranged (card .none) p st Q F s t .slots) (idle (arranged (card .none) p st Q F s t)) F
+    pub free-after : Spells (card .none) (arranged (card .none) p st Q F s t .slots) (freeRecord (arranged (card .none) p st Q F s t)) F
     unfolding arranged
     free-after =
         record { first = refl; last = refl; held = count; linked = c .linked; below = c .below }
@@ -141,12 +141,12 @@ module _ (card : Card) (t : Tables) (w : Whole card t) where
             spelled-is (card .none) (others-after r (omega (arith, queues-count after, pairs-after, w .pair-records)) (eqb-false r p e))
             ∙ sym (getD-set-other (queues t) p r _ [] (eqb-false r p e) ∙ queue-is t r))
 
-    pub once-after : (i : ℕ) → i < card .slots → times i (free (arranged (card .none) p st Q F s t) ++ join (queues (arranged (card .none) p st Q F s t))) ≡ 1
+    pub once-after : (i : ℕ) → i < card .slots → times i (free (arranged (card .none) p st Q F s t) ++ concat (queues (arranged (card .none) p st Q F s t))) ≡ 1
     once-after i h =
         rw (queues-after, spelled-is (card .none) free-after)
         (omega (
           arith,
-          times-append i F (join (set (queues t) p Q)),
+          times-append i F (concat (set (queues t) p Q)),
           share i,
           rw (queue-is t p) at (times-join-set i (queues t) p Q (omega (arith, queues-count t, w .pair-records))),
           rw times-append at (w .once i h),
@@ -155,14 +155,14 @@ module _ (card : Card) (t : Tables) (w : Whole card t) where
     -- (6) whole tables stay whole
     pub whole-after : ((st .state ≡ 1 → ⊥) → length Q ≡ 0) → Whole card (arranged (card .none) p st Q F s t)
     unfolding arranged
-    whole-after idle =
+    whole-after few =
         record {
           pair-records = pairs-after ∙ w .pair-records;
           slot-records = slots-after ∙ w .slot-records;
           pairs-run = runs;
           free-runs = rw (spelled-is (card .none) free-after) free-after;
           once = once-after;
-          idle-empty = empty;
+          others-empty = empty;
         }
       where
         runs : (r : ℕ) → r < card .pairs
@@ -178,7 +178,7 @@ module _ (card : Card) (t : Tables) (w : Whole card t) where
             by-test (eqb r p)
             (λ e.
             rw (eqb-true r p e, pair-same (t .pairs) p _ (omega (arith, w .pair-records)))
-            (idle (rw (eqb-true r p e, pair-same (t .pairs) p _ (omega (arith, w .pair-records))) at n)))
+            (few (rw (eqb-true r p e, pair-same (t .pairs) p _ (omega (arith, w .pair-records))) at n)))
             (λ e.
             rw (pair-other (t .pairs) p r _ (eqb-false r p e))
-            (w .idle-empty r h (rw (pair-other (t .pairs) p r _ (eqb-false r p e)) at n)))
+            (w .others-empty r h (rw (pair-other (t .pairs) p r _ (eqb-false r p e)) at n)))

@@ -12,7 +12,7 @@ use Rattle.refusal.specs.Choice.{Each}
 use Rattle.refusal.proofs.Each.{each-at}
 use Rattle.refusal.proofs.Cases.{by-test}
 use Rattle.rules.specs.declared.Slot.{Slot}
-use Rattle.rules.specs.Slots.{times, join, Below, lastOf, Linked}
+use Rattle.rules.specs.Slots.{times, concat, Below, lastOf, Linked}
 use Rattle.rules.proofs.Slots.Links.{Distinct, Apart, times-same, times-other, times-append}
 
 module _ (none : ℕ) (s : List Slot) where
@@ -149,24 +149,24 @@ some-length : (i : ℕ) (l : List ℕ) → 1 ≤ times i l → 0 < length l
 some-length i [] h = absurd (omega arith)
 some-length i (a ∷ l) h = omega arith
 
-in-join : (i : ℕ) (ls : List (List ℕ)) → 1 ≤ times i (join ls) → (p : ℕ) × (p < length ls) × (1 ≤ times i (getD ls p []))
+in-join : (i : ℕ) (ls : List (List ℕ)) → 1 ≤ times i (concat ls) → (p : ℕ) × (p < length ls) × (1 ≤ times i (getD ls p []))
 in-join i [] h = absurd (omega arith)
 in-join i (l ∷ ls) h =
     by-test (ltb 0 (times i l))
     (λ e. (0, omega arith, ltb-true 0 (times i l) e))
     (λ e.
-    let r = in-join i ls (omega (arith, times-append i l (join ls), ltb-false 0 (times i l) e)) in
+    let r = in-join i ls (omega (arith, times-append i l (concat ls), ltb-false 0 (times i l) e)) in
     (suc (r .0), suc-le-suc (r .1), r .2))
 
 module _ (none : ℕ) (s : List Slot) where
-  pub distinct-join : (ls : List (List ℕ)) → Each (Linked none s) ls → Each (Below none) ls → Lasts none ls → Distinct (join ls)
+  pub distinct-join : (ls : List (List ℕ)) → Each (Linked none s) ls → Each (Below none) ls → Lasts none ls → Distinct (concat ls)
   distinct-join [] h b d i = omega arith
   distinct-join (l ∷ ls) h b d i =
       by-test (ltb 0 (times i l))
-      (λ e. by-test (ltb 0 (times i (join ls)))
-      (λ f. absurd (both (ltb-true 0 (times i l) e) (in-join i ls (ltb-true 0 (times i (join ls)) f))))
-      (λ f. omega (arith, times-append i l (join ls), ltb-false 0 (times i (join ls)) f, distinct-of none s l (h .0) (b .0) i)))
-      (λ e. omega (arith, times-append i l (join ls), ltb-false 0 (times i l) e, distinct-join ls (h .1) (b .1) (d .1) i))
+      (λ e. by-test (ltb 0 (times i (concat ls)))
+      (λ f. absurd (both (ltb-true 0 (times i l) e) (in-join i ls (ltb-true 0 (times i (concat ls)) f))))
+      (λ f. omega (arith, times-append i l (concat ls), ltb-false 0 (times i (concat ls)) f, distinct-of none s l (h .0) (b .0) i)))
+      (λ e. omega (arith, times-append i l (concat ls), ltb-false 0 (times i l) e, distinct-join ls (h .1) (b .1) (d .1) i))
     where
       both : 1 ≤ times i l → (p : ℕ) × (p < length ls) × (1 ≤ times i (getD ls p [])) → ⊥
       both x y =
@@ -174,5 +174,5 @@ module _ (none : ℕ) (s : List Slot) where
           (share-last none s i l (getD ls (y .0) []) (h .0) (each-at (Linked none s) ls (y .0) [] (h .1) (y .1)) (b .0) (each-at (Below none) ls (y .0) [] (b .1) (y .1)) x (y .2))
 
   pub once-of : (n : ℕ) (ls : List (List ℕ)) → Each (Linked none s) ls → Each (Below none) ls → Lasts none ls
-      → Below n (join ls) → length (join ls) ≡ n → (i : ℕ) → i < n → times i (join ls) ≡ 1
-  once-of n ls h b d low e i l = each-once n (join ls) (distinct-join ls h b d) low e i l
+      → Below n (concat ls) → length (concat ls) ≡ n → (i : ℕ) → i < n → times i (concat ls) ≡ 1
+  once-of n ls h b d low e i l = each-once n (concat ls) (distinct-join ls h b d) low e i l

@@ -10,12 +10,12 @@ use Rattle.rules.specs.declared.Standing.{Standing}
 use Rattle.rules.specs.declared.Packet.{Packet}
 use Rattle.rules.specs.declared.Queue.{Queue}
 use Rattle.rules.specs.Card.{Card}
-use Rattle.rules.specs.Slots.{Tables, slotAt, pairAt, idle, sideOf, relinked, times, queue, free, side, firstOf, lastOf, endsOf, chain, Spells, arranged, freed}
+use Rattle.rules.specs.Slots.{Tables, slotAt, pairAt, freeRecord, sideOf, relinked, times, queue, free, side, firstOf, lastOf, endsOf, chain, Spells, arranged, freed}
 use Rattle.rules.specs.Audit.{Whole}
 use Rattle.rules.proofs.Slots.Links.{Distinct, times-append, times-parts, chain-packet, chain-linked, linked-drop, chain-front, chain-twice, hang, spelled-is}
 use Rattle.rules.proofs.Slots.Lists.{map-drop}
 use Rattle.rules.proofs.Slots.Queues.{pair-and-free}
-use Rattle.rules.proofs.Slots.Arranged.{free-after, pair-after, side-after, side-others, whole-after}
+use Rattle.rules.proofs.Slots.Arranged.{others-after, free-after, pair-after, side-after, side-others, whole-after}
 
 module _ (card : Card) (t : Tables) (w : Whole card t) where
   module _ (p : ℕ) (hp : p < card .pairs) (st : Standing) (k : ℕ) where
@@ -36,9 +36,9 @@ module _ (card : Card) (t : Tables) (w : Whole card t) where
     freed-others = side-others card t w p hp st _ _ (t .slots) refl (λ i. refl) (λ i z. refl) freed-share freed-many
 
     pub freed-whole : ((st .state ≡ 1 → ⊥) → length (queue t p) ≤ k) → Whole card (freed (card .none) p st k t)
-    freed-whole idle =
+    freed-whole few =
         whole-after card t w p hp st _ _ (t .slots) refl (λ i. refl) (λ i z. refl) freed-share freed-many
-        (λ n. omega (arith, length-drop k (queue t p), idle n))
+        (λ n. omega (arith, length-drop k (queue t p), few n))
 
     -- (b) what is written: the links of the longer free list only
     pub freed-slots : freed (card .none) p st k t .slots ≡ chain (card .none) (free t ++ take k (queue t p)) (t .slots)
@@ -76,6 +76,10 @@ module _ (card : Card) (t : Tables) (w : Whole card t) where
 
     pub freed-free : free (freed (card .none) p st k t) ≡ free t ++ take k (queue t p)
     freed-free = spelled-is (card .none) (free-after card t w p hp st _ _ (t .slots) refl (λ i. refl) (λ i z. refl) freed-share freed-many)
+
+    pub freed-other-queue : (r : ℕ) → r < card .pairs → r ≢ p → queue (freed (card .none) p st k t) r ≡ queue t r
+    freed-other-queue r h d =
+        spelled-is (card .none) (others-after card t w p hp st _ _ (t .slots) refl (λ i. refl) (λ i z. refl) freed-share freed-many r h d)
 
     -- a freed slot keeps all but its link
     pub freed-packet : (i : ℕ) → slotAt (freed (card .none) p st k t .slots) i .packet ≡ slotAt (t .slots) i .packet

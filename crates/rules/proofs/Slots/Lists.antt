@@ -8,29 +8,29 @@ use native.Mathlib.Nat.{le-of-suc-le-suc}
 use borrow.Author.Tests.{ne-eqb}
 use lib.ListN.{length, getD, set, drop}
 use lib.Seq.{getD-set-other}
-use Rattle.rules.specs.Slots.{times, join, Below}
+use Rattle.rules.specs.Slots.{times, concat, Below}
 use Rattle.rules.proofs.Slots.Links.{times-append, times-tail, times-same, below-append}
 
-pub times-join-at : (i : ℕ) (ls : List (List ℕ)) (p : ℕ) → times i (getD ls p []) ≤ times i (join ls)
+pub times-join-at : (i : ℕ) (ls : List (List ℕ)) (p : ℕ) → times i (getD ls p []) ≤ times i (concat ls)
 times-join-at i [] p = omega arith
-times-join-at i (l ∷ ls) zero = omega (arith, times-append i l (join ls))
-times-join-at i (l ∷ ls) (suc p) = omega (arith, times-append i l (join ls), times-join-at i ls p)
+times-join-at i (l ∷ ls) zero = omega (arith, times-append i l (concat ls))
+times-join-at i (l ∷ ls) (suc p) = omega (arith, times-append i l (concat ls), times-join-at i ls p)
 
 pub times-join-set : (i : ℕ) (ls : List (List ℕ)) (p : ℕ) (m : List ℕ) → p < length ls
-    → times i (join (set ls p m)) + times i (getD ls p []) ≡ times i (join ls) + times i m
+    → times i (concat (set ls p m)) + times i (getD ls p []) ≡ times i (concat ls) + times i m
 times-join-set i [] p m h = omega arith
-times-join-set i (l ∷ ls) zero m h = omega (arith, times-append i l (join ls), times-append i m (join ls))
+times-join-set i (l ∷ ls) zero m h = omega (arith, times-append i l (concat ls), times-append i m (concat ls))
 times-join-set i (l ∷ ls) (suc p) m h =
-    omega (arith, times-append i l (join ls), times-append i l (join (set ls p m)), times-join-set i ls p m (le-of-suc-le-suc h))
+    omega (arith, times-append i l (concat ls), times-append i l (concat (set ls p m)), times-join-set i ls p m (le-of-suc-le-suc h))
 
 -- two of them together stand in the whole
-pub times-join-two : (i : ℕ) (ls : List (List ℕ)) (p r : ℕ) → p < length ls → r ≢ p → times i (getD ls p []) + times i (getD ls r []) ≤ times i (join ls)
+pub times-join-two : (i : ℕ) (ls : List (List ℕ)) (p r : ℕ) → p < length ls → r ≢ p → times i (getD ls p []) + times i (getD ls r []) ≤ times i (concat ls)
 times-join-two i ls p r h d =
     omega (arith, times-join-set i ls p [] h, rw (getD-set-other ls p r [] [] d) at (times-join-at i (set ls p []) r))
 
-pub below-join : (n : ℕ) (ls : List (List ℕ)) → ((p : ℕ) → p < length ls → Below n (getD ls p [])) → Below n (join ls)
+pub below-join : (n : ℕ) (ls : List (List ℕ)) → ((p : ℕ) → p < length ls → Below n (getD ls p [])) → Below n (concat ls)
 below-join n [] h = tt
-below-join n (l ∷ ls) h = below-append n l (join ls) (h 0 (omega arith)) (below-join n ls (λ p b. h (suc p) (suc-le-suc b)))
+below-join n (l ∷ ls) h = below-append n l (concat ls) (h 0 (omega arith)) (below-join n ls (λ p b. h (suc p) (suc-le-suc b)))
 
 pub times-below : (n i : ℕ) (l : List ℕ) → Below n l → n ≤ i → times i l ≡ 0
 times-below n i [] b h = refl

@@ -13,7 +13,7 @@ use Rattle.refusal.proofs.Cases.{by-test}
 use Rattle.rules.specs.declared.Pair.{Pair}
 use Rattle.rules.specs.declared.Slot.{Slot}
 use Rattle.rules.specs.Card.{Card}
-use Rattle.rules.specs.Slots.{Tables, pairAt, heldBy, follow, spelled, times, join, queues, queue, free, Below}
+use Rattle.rules.specs.Slots.{Tables, pairAt, heldBy, follow, spelled, times, concat, queues, queue, free, Below}
 use Rattle.rules.specs.Audit.{Whole}
 use Rattle.rules.proofs.Slots.Links.{times-append, below-append}
 use Rattle.rules.proofs.Slots.Disjoint.{length-of-once}
@@ -41,12 +41,12 @@ length-follow s at zero = refl
 length-follow s at (suc k) = ap suc (length-follow s _ k)
 
 -- the queues are as long as the pairs' counts say
-pub length-queues : (s : List Slot) (ps : List Pair) → length (join (map (λ q. spelled s (q .queue)) ps)) ≡ heldBy ps
+pub length-queues : (s : List Slot) (ps : List Pair) → length (concat (map (λ q. spelled s (q .queue)) ps)) ≡ heldBy ps
 length-queues s [] = refl
 length-queues s (p ∷ ps) =
     omega (
       arith,
-      length-append (spelled s (p .queue)) (join (map (λ q. spelled s (q .queue)) ps)),
+      length-append (spelled s (p .queue)) (concat (map (λ q. spelled s (q .queue)) ps)),
       length-follow s (p .queue .first) (p .queue .held),
       length-queues s ps,
     )
@@ -61,9 +61,9 @@ module _ (card : Card) (t : Tables) (w : Whole card t) where
   pub free-below : Below (card .slots) (free t)
   free-below = subst (λ (n : ℕ). Below n (free t)) (w .slot-records) (w .free-runs .below)
 
-  pub all-below : Below (card .slots) (free t ++ join (queues t))
+  pub all-below : Below (card .slots) (free t ++ concat (queues t))
   all-below =
-      below-append (card .slots) (free t) (join (queues t)) free-below
+      below-append (card .slots) (free t) (concat (queues t)) free-below
       (below-join (card .slots) (queues t) (λ p h.
       rw (queue-is t p) (rw (w .slot-records) at (w .pairs-run p (omega (arith, queues-count t, w .pair-records)) .below))))
 
@@ -72,18 +72,18 @@ module _ (card : Card) (t : Tables) (w : Whole card t) where
   all-slots =
       omega (
         arith,
-        length-of-once (card .slots) (free t ++ join (queues t)) all-below (w .once),
-        length-append (free t) (join (queues t)),
+        length-of-once (card .slots) (free t ++ concat (queues t)) all-below (w .once),
+        length-append (free t) (concat (queues t)),
         length-queues (t .slots) (t .pairs),
       )
 
   -- no number stands twice in all the queues
-  pub at-most-once : (i : ℕ) → times i (free t) + times i (join (queues t)) ≤ 1
+  pub at-most-once : (i : ℕ) → times i (free t) + times i (concat (queues t)) ≤ 1
   at-most-once i =
-      rw (← times-append i (free t) (join (queues t)))
+      rw (← times-append i (free t) (concat (queues t)))
       (by-test (ltb i (card .slots))
       (λ e. omega (arith, w .once i (ltb-true i (card .slots) e)))
-      (λ e. omega (arith, times-below (card .slots) i (free t ++ join (queues t)) all-below (ltb-false i (card .slots) e))))
+      (λ e. omega (arith, times-below (card .slots) i (free t ++ concat (queues t)) all-below (ltb-false i (card .slots) e))))
 
   pub pair-and-free : (p i : ℕ) → times i (free t) + times i (queue t p) ≤ 1
   pair-and-free p i = omega (arith, at-most-once i, rw (queue-is t p) at (times-join-at i (queues t) p))

@@ -12,11 +12,11 @@ use Rattle.rules.specs.declared.Slot.{Slot}
 use Rattle.rules.specs.Card.{Card}
 use Rattle.rules.specs.Slots.{Tables, slotAt, pairAt, sideOf, relinked, times, queue, free, side, lastOf, chain, Linked, arranged, stored, filled}
 use Rattle.rules.specs.Audit.{Whole}
-use Rattle.rules.proofs.Slots.Links.{times-append, times-parts, below-take, chain-linked, linked-drop, linked-apart, linked-same, chain-front, hang, spelled-is}
+use Rattle.rules.proofs.Slots.Links.{chain-packet, times-append, times-parts, below-take, chain-linked, linked-drop, linked-apart, linked-same, chain-front, hang, spelled-is}
 use Rattle.rules.proofs.Slots.Lists.{map-on}
 use Rattle.rules.proofs.Slots.Filled.{length-filled, filled-link, filled-other, filled-packets}
 use Rattle.rules.proofs.Slots.Queues.{pair-and-free}
-use Rattle.rules.proofs.Slots.Arranged.{free-after, pair-after, side-after, side-others, whole-after}
+use Rattle.rules.proofs.Slots.Arranged.{others-after, free-after, pair-after, side-after, side-others, whole-after}
 
 module _ (card : Card) (t : Tables) (w : Whole card t) where
   module _ (p : ℕ) (hp : p < card .pairs) (st : Standing) (qs : List Packet) (room : length qs ≤ length (free t)) where
@@ -84,6 +84,12 @@ module _ (card : Card) (t : Tables) (w : Whole card t) where
         spelled-is (card .none)
         (free-after card t w p hp st _ _ (filled took qs (t .slots)) (length-filled took qs (t .slots)) (filled-link took qs (t .slots)) stored-packets stored-share stored-many)
 
+    pub stored-other-queue : (r : ℕ) → r < card .pairs → r ≢ p → queue (stored (card .none) p st qs t) r ≡ queue t r
+    unfolding took
+    stored-other-queue r h d =
+        spelled-is (card .none)
+        (others-after card t w p hp st _ _ (filled took qs (t .slots)) (length-filled took qs (t .slots)) (filled-link took qs (t .slots)) stored-packets stored-share stored-many r h d)
+
     -- what is written: the packets, and the links of the pair's longer list only
     linked-put : (l : List ℕ) → Linked (card .none) (t .slots) l → Linked (card .none) (filled took qs (t .slots)) l
     linked-put = linked-same (card .none) (t .slots) (filled took qs (t .slots)) (filled-link took qs (t .slots))
@@ -119,3 +125,11 @@ module _ (card : Card) (t : Tables) (w : Whole card t) where
         (chain-front (card .none) b l (drop (length qs) (free t)) (filled (b ∷ l) qs (t .slots))
         (λ i. omega (arith, pair-and-free card t w p i, rw ek at (times-parts i (length qs) (free t))))
         (rw ek at (linked-put (took ++ drop (length qs) (free t)) (rw (take-append-drop (length qs) (free t)) (w .free-runs .linked)))))
+
+    -- every slot but those taken keeps its packet
+    pub stored-packet : (i : ℕ) → times i (take (length qs) (free t)) ≡ 0 → slotAt (stored (card .none) p st qs t .slots) i .packet ≡ slotAt (t .slots) i .packet
+    unfolding took
+    stored-packet i z =
+        ap (λ (s : List Slot). slotAt s i .packet) stored-slots
+        ∙ chain-packet (card .none) (queue t p ++ take (length qs) (free t)) (filled (take (length qs) (free t)) qs (t .slots)) i
+        ∙ ap (λ (x : Slot). x .packet) (filled-other (take (length qs) (free t)) qs (t .slots) i z)

@@ -74,8 +74,8 @@ unfoldable pub opens : Settings → Packet → Bool
 opens s p = leb (p .opcode) 6 and same p (made (6 * (p .opcode / 6)) (heading p) (p .psn % psns) (p .offset) (pmtu s))
 
 -- after a First, of a message whose length a Send does not tell
-abbrev pub opened : Packet → Begun
-opened p =
+abbrev pub begun : Packet → Begun
+begun p =
     record {
       whole = true;
       kind = p .opcode / 6;
@@ -89,7 +89,7 @@ opened p =
 
 -- the first record of a message
 abbrev pub newMessage : Settings → Packet → Stage
-newMessage s p = if single s p then Between else if opens s p then Inside (opened p) else Lost
+newMessage s p = if single s p then Between else if opens s p then Inside (begun p) else Lost
 
 -- the post of a message that is not at its end; no later record shows its key
 abbrev pub postOf : Begun → Bool → ℕ → ℕ → Post
@@ -130,13 +130,13 @@ unfoldable pub goesOn : Settings → Begun → Packet → Bool
 goesOn s w p = same p (middle s w) and ltb (suc (w .count)) (s .ceiling)
 
 -- the post, once the last record is there
-abbrev pub ended : Settings → Begun → Packet → Post
-ended s w p = postOf w (hasImmediate (p .opcode)) (w .count * pmtu s + p .length) (p .value)
+abbrev pub wholePost : Settings → Begun → Packet → Post
+wholePost s w p = postOf w (hasImmediate (p .opcode)) (w .count * pmtu s + p .length) (p .value)
 
 -- the last record: the whole post is allowed, and as long as a Write's First said
 unfoldable pub closes : Settings → Begun → Packet → Bool
 closes s w p =
-    let m = ended s w p in
+    let m = wholePost s w p in
     allowedTo s m
     and eqb (packetsFor (pmtu s) (m .length)) (suc (w .count))
     and same p (packetAt s m (w .first) (w .count))

@@ -1,3 +1,0 @@
--- The errors of this trade, each shut out by a theorem.
-pub mod Acked
-pub mod Reads
