@@ -1,4 +1,5 @@
 pub mod Demands
+pub mod Errors
 pub mod Numbers
 pub mod Examples
 pub mod Cards

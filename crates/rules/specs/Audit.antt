@@ -1,7 +1,7 @@
 -- "The audit passes exactly if": document 01's six bullets, in its order, and that a state is one of its three.
 use mathlib.Core.Path.{_≡_}
 use mathlib.Core.Bool.{false}
-use mathlib.Core.List.{List, [], _∷_, _++_}
+use mathlib.Core.List.{_++_}
 use Prim.Native.Nat.{ℕ, _≤_, _<_}
 use lib.ListN.{length}
 use Rattle.psn.specs.Psn.{psns}

@@ -3,7 +3,7 @@ use mathlib.Core.Bool.{not, _&&_}
 use mathlib.Core.List.{List, [], _∷_, _++_}
 use Prim.Native.Nat.{ℕ, _+_}
 use lib.Dec.{eqb}
-use lib.ListN.{length, set, take, drop, replicate}
+use lib.ListN.{length, set, drop, replicate}
 use Rattle.refusal.specs.Choice.{if_then_else_}
 use Rattle.refusal.specs.Refusals.{_gives_, firstGiven}
 use Rattle.rules.specs.declared.Packet.{Packet}

@@ -1,23 +1,30 @@
 -- "Errors of this trade", each as what shuts it out. Their proofs are in proofs/Errors.
 use mathlib.Core.Path.{_≡_}
-use mathlib.Core.Bool.{true, false}
+use mathlib.Core.Bool.{true}
 use mathlib.Core.List.{List, _++_, map}
 use Prim.Native.Nat.{ℕ, _≤_, _<_}
-use Rattle.psn.specs.Psn.{psns, distance, plus}
+use lib.ListN.{length}
+use Rattle.psn.specs.Psn.{psns, distance, plus, next}
 use Rattle.refusal.specs.Choice.{Each}
 use Rattle.rules.specs.declared.Packet.{Packet}
 use Rattle.rules.specs.declared.Line.{Line}
 use Rattle.rules.specs.declared.Standing.{Standing}
 use Rattle.rules.specs.declared.Post.{Post}
-use Rattle.rules.specs.Account.{Side, U, moved}
+use Rattle.rules.specs.declared.Answer.the-variants.{Done}
+use Rattle.rules.specs.declared.Reply.the-variants.{Answered}
+use Rattle.rules.specs.Card.{Card}
+use Rattle.rules.specs.Account.{Side, U, moved, ahead}
 use Rattle.rules.specs.Message.{isRead, unanswered}
 use Rattle.rules.specs.Posting.{posted}
-use Rattle.rules.specs.Outcome.{Outcome}
-use Rattle.rules.specs.Acknowledge.{acknowledge}
-use Rattle.rules.specs.Response.{response}
+use Rattle.rules.specs.Outcome.{Outcome, leftWith, messagesOf}
+
+use Rattle.rules.specs.Acknowledge.{inside, acknowledge}
+use Rattle.rules.specs.Response.{covers, response}
 use Rattle.rules.specs.Timer.{timer}
 use Rattle.rules.specs.Emission.{emitted}
 use Rattle.rules.specs.Slots.{Tables, slotAt, queue, free, times, side}
+use Rattle.rules.specs.Requests.{acknowledging, on}
+use Rattle.rules.specs.Calls.{call}
 
 -- ---- "An ACK of Sends that leaves R held."
 
@@ -35,6 +42,12 @@ pub record NoneUpTo (p r : ℕ) (t n : Tables) : Type 0 where
   pub all-up-to : Each (UpTo (U (side t p)) r) gone
   pub none-held : Each (After (U (side t p)) r) (side n p .packets)
   pub slots-free : (i : ℕ) → 1 ≤ times i (queue t p) → UpTo (U (side t p)) r (slotAt (t .slots) i .packet) → times i (free n) ≡ 1
+
+-- an ACK of R lets go of all packets up to R and of no other, answers "done" with the count of their messages, and U is past R
+pub record Acked (card : Card) (t : Tables) (p r y : ℕ) (b : List ℕ) : Type 0 where
+  pub none-up-to : NoneUpTo p r t (call card (on p (acknowledging r y b)) t .next)
+  pub done : call card (on p (acknowledging r y b)) t .said .reply ≡ Answered Done (messagesOf (leftWith 0 (none-up-to .gone))) 0
+  pub u-after : U (side (call card (on p (acknowledging r y b)) t .next) p) ≡ next r
 
 -- ---- "PSNs compared as plain numbers, wrong at 16,777,215."
 
@@ -71,7 +84,9 @@ pub record TurnsRound (k : ℕ) (s : Side) : Type 0 where
   pub post : (m : Post) → posted m (turned k s) ≡ turned k (posted m s)
   pub emission : (budget : ℕ) → emitted budget (turned k s) ≡ turned k (emitted budget s)
   pub acknowledgement : (r syndrome : ℕ) → r < psns → acknowledge (plus r k) syndrome (turned k s) ≡ turnedOutcome k (acknowledge r syndrome s)
-  pub read-response : (r : ℕ) → r < psns → response (plus r k) (turned k s) ≡ turnedOutcome k (response r s)
+  -- of any response that 9 does not refuse: R, where it is inside, is one of a read's PSNs
+  pub read-response : (r : ℕ) → r < psns → (inside r s ≡ true → ahead (covers (s .standing .settings) r) (s .packets) < length (s .packets))
+      → response (plus r k) (turned k s) ≡ turnedOutcome k (response r s)
   pub timer-step : (e : ℕ) → timer e (turned k s) ≡ turnedOutcome k (timer e s)
 
 -- ---- "An ACK past an unanswered read that frees the read."

@@ -1,14 +1,14 @@
 -- What the audit asks of one pair's side, and that every request keeps it.
 use mathlib.Core.Path.{_≡_, refl, sym, ap, _∙_}
 use mathlib.Core.Bool.{true, false, _&&_, true≢false}
-use mathlib.Core.List.{List, [], _∷_, _++_, map}
+use mathlib.Core.List.{List, [], _∷_, map}
 use Prim.Native.Nat.{ℕ, zero, suc, _+_, _-_, _/_, _≤_, _<_, max}
 use native.Mathlib.Omega.{arith}
-use native.Mathlib.Nat.{div-lt-iff-lt-mul, not-suc-le-zero, le-of-suc-le-suc}
+use native.Mathlib.Nat.{div-lt-iff-lt-mul}
 use lib.Pow.{pow-pos, pow-mono}
 use lib.Dec.{eqb}
 use borrow.Author.Tests.{ltb-true, eqb-false, ne-eqb}
-use lib.ListN.{length, getD, drop, length-drop, length-append, length-map}
+use lib.ListN.{length, drop, length-drop, length-append, length-map}
 use Rattle.refusal.specs.Choice.{Each}
 use Rattle.refusal.proofs.Each.{each-append, each-drop, each-at, each-map}
 use Rattle.refusal.proofs.Cases.{by-test, if-case, or-left}

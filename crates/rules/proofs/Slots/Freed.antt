@@ -10,7 +10,7 @@ use Rattle.rules.specs.declared.Standing.{Standing}
 use Rattle.rules.specs.declared.Packet.{Packet}
 use Rattle.rules.specs.declared.Queue.{Queue}
 use Rattle.rules.specs.Card.{Card}
-use Rattle.rules.specs.Slots.{Tables, slotAt, pairAt, freeRecord, sideOf, relinked, times, queue, free, side, firstOf, lastOf, endsOf, chain, Spells, arranged, freed}
+use Rattle.rules.specs.Slots.{Tables, slotAt, pairAt, sideOf, relinked, times, queue, free, side, firstOf, lastOf, endsOf, chain, Spells, arranged, freed}
 use Rattle.rules.specs.Audit.{Whole}
 use Rattle.rules.proofs.Slots.Links.{Distinct, times-append, times-parts, chain-packet, chain-linked, linked-drop, chain-front, chain-twice, hang, spelled-is}
 use Rattle.rules.proofs.Slots.Lists.{map-drop}

@@ -1,0 +1,5 @@
+-- The errors of this trade, each shut out by a theorem.
+pub mod Acked
+pub mod Turning
+pub mod Turned
+pub mod Reads
