@@ -5,17 +5,17 @@ use mathlib.Core.List.{List, [], _∷_}
 use Prim.Native.Nat.{_<_}
 use native.Mathlib.Omega.{arith}
 use Rattle.refusal.specs.Choice.{Each}
-use Rattle.refusal.specs.Refusals.{Line, firstGiven}
+use Rattle.refusal.specs.Refusals.{Row, firstGiven}
 use Rattle.refusal.proofs.Cases.{by-test}
 
-abbrev pub NoneHolds : List Line → Type 0
-NoneHolds ls = Each (λ (l : Line). l .holds ≡ false) ls
+abbrev pub NoneHolds : List Row → Type 0
+NoneHolds ls = Each (λ (l : Row). l .holds ≡ false) ls
 
-abbrev pub Numbered : List Line → Type 0
-Numbered ls = Each (λ (l : Line). 0 < l .number) ls
+abbrev pub Numbered : List Row → Type 0
+Numbered ls = Each (λ (l : Row). 0 < l .number) ls
 
 -- no line gives 0: if 0 comes out, none holds
-pub none-given : (ls : List Line) → Numbered ls → firstGiven ls ≡ 0 → NoneHolds ls
+pub none-given : (ls : List Row) → Numbered ls → firstGiven ls ≡ 0 → NoneHolds ls
 none-given [] n e = tt
 none-given (l ∷ ls) n e =
     by-test (l .holds)

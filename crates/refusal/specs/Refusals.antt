@@ -6,14 +6,14 @@ use Prim.Native.Nat.{ℕ}
 use Rattle.refusal.specs.Choice.{if_then_else_}
 
 infix 80 _gives_
-pub record Line : Type 0 where
+pub record Row : Type 0 where
   pub holds : Bool
   pub number : ℕ
 
-abbrev pub _gives_ : Bool → ℕ → Line
+abbrev pub _gives_ : Bool → ℕ → Row
 t gives n = record { holds = t; number = n }
 
 -- the number of the first line that holds, or 0
-abbrev pub firstGiven : List Line → ℕ
+abbrev pub firstGiven : List Row → ℕ
 firstGiven [] = 0
 firstGiven (l ∷ ls) = if l .holds then l .number else firstGiven ls

@@ -16,7 +16,7 @@ impl Refusal {
     pub const FENCE: u8 = 6;
     // A post that would take N too far from U.
     pub const DISTANCE: u8 = 7;
-    // No room: past the ceiling, or the sum of shares and held would pass the pool.
+    // No room: past the ceiling, or the sum of the larger of share and held would pass the pool.
     pub const ROOM: u8 = 8;
     // A read response inside the open range that does not fit.
     pub const RESPONSE: u8 = 9;

@@ -25,7 +25,7 @@ use Rattle.rules.proofs.Passes.Decided.{sound}
 use Rattle.rules.proofs.Calls.Moves.{side-at, side-length, idle-side}
 use Rattle.rules.proofs.Calls.Fresh.{fresh-sides, fresh-audit}
 use Rattle.rules.proofs.Calls.Agrees.{agrees, Agreed, agreed}
-use Rattle.rules.proofs.Calls.Refused.{unchanged, unchanged-start, unaudited, numbers}
+use Rattle.rules.proofs.Calls.Refused.{unchanged, unchanged-start, unaudited, one-to-nine}
 use Rattle.rules.proofs.Calls.Buffers.{call-buffer}
 use Rattle.rules.proofs.Calls.Tidy.{tidy}
 use Rattle.rules.proofs.Calls.Room.{room}
@@ -65,7 +65,7 @@ module _ (card : Card) where
   audits p q t = (never, always)
     where
       never : numberOf (call card (on p q) t .said .reply) ≡ 15 → Audit card t → ⊥
-      never e a = omega (arith, e, numbers card t a p q _ (refusal-of (call card (on p q) t .said .reply) (omega (arith, e))))
+      never e a = omega (arith, e, one-to-nine card t a p q _ (refusal-of (call card (on p q) t .said .reply) (omega (arith, e))))
 
       always : (Audit card t → ⊥) → numberOf (call card (on p q) t .said .reply) ≡ 15
       always h = by-test (passes card t) (λ e. absurd (h (sound card t e))) (λ e. rw (unaudited card t p q e))

@@ -14,5 +14,5 @@ abbrev pub small : Card
 small = record { pairs = 64; slots = 256; none = 256; apart = omega arith }
 
 -- the completion buffer, "512 32-bit numbers": a ticket and a status for each slot
-abbrev pub numbers : Card → ℕ
-numbers card = 2 * card .slots
+abbrev pub completionBuffer : Card → ℕ
+completionBuffer card = 2 * card .slots

@@ -1,29 +1,35 @@
 -- "Errors of this trade", each as what shuts it out. Their proofs are in proofs/Errors.
 use mathlib.Core.Path.{_≡_}
-use mathlib.Core.Bool.{true}
+use mathlib.Core.Logic.{_≢_}
+use mathlib.Core.Bool.{true, false}
 use mathlib.Core.List.{List, _++_, map}
 use Prim.Native.Nat.{ℕ, _≤_, _<_}
 use lib.ListN.{length}
 use Rattle.psn.specs.Psn.{psns, distance, plus, next}
 use Rattle.refusal.specs.Choice.{Each}
+use Rattle.refusal.specs.Refusals.{firstGiven}
 use Rattle.rules.specs.declared.Packet.{Packet}
 use Rattle.rules.specs.declared.Line.{Line}
 use Rattle.rules.specs.declared.Standing.{Standing}
 use Rattle.rules.specs.declared.Post.{Post}
-use Rattle.rules.specs.declared.Answer.the-variants.{Done}
+use Rattle.rules.specs.declared.Answer.{Answer}
+use Rattle.rules.specs.declared.Answer.the-variants.{Done, Ended}
 use Rattle.rules.specs.declared.Reply.the-variants.{Answered}
 use Rattle.rules.specs.Card.{Card}
 use Rattle.rules.specs.Account.{Side, U, moved, ahead}
 use Rattle.rules.specs.Message.{isRead, unanswered}
+use Rattle.rules.specs.Ranges.{topBits}
 use Rattle.rules.specs.Posting.{posted}
 use Rattle.rules.specs.Outcome.{Outcome, leftWith, messagesOf}
-
+use Rattle.rules.specs.Release.{release}
 use Rattle.rules.specs.Acknowledge.{inside, acknowledge}
 use Rattle.rules.specs.Response.{covers, response}
 use Rattle.rules.specs.Timer.{timer}
 use Rattle.rules.specs.Emission.{emitted}
-use Rattle.rules.specs.Slots.{Tables, slotAt, queue, free, times, side}
+use Rattle.rules.specs.Slots.{Tables, slotAt, queue, free, times, side, sides}
+use Rattle.rules.specs.Audit.{Audit}
 use Rattle.rules.specs.Requests.{acknowledging, on}
+use Rattle.rules.specs.Refusals.{refusals}
 use Rattle.rules.specs.Calls.{call}
 
 -- ---- "An ACK of Sends that leaves R held."
@@ -48,6 +54,16 @@ pub record Acked (card : Card) (t : Tables) (p r y : ℕ) (b : List ℕ) : Type 
   pub none-up-to : NoneUpTo p r t (call card (on p (acknowledging r y b)) t .next)
   pub done : call card (on p (acknowledging r y b)) t .said .reply ≡ Answered Done (messagesOf (leftWith 0 (none-up-to .gone))) 0
   pub u-after : U (side (call card (on p (acknowledging r y b)) t .next) p) ≡ next r
+
+-- of every ACK of R on audited tables that meets none of 1 to 9, is not dropped and not stopped
+abbrev pub AckFrees : Card → Type 0
+AckFrees card =
+    (t : Tables) → Audit card t → (p r y : ℕ) (b : List ℕ)
+    → firstGiven (refusals card (acknowledging r y b) p (sides t)) ≡ 0
+    → topBits y ≡ 0
+    → inside r (side t p) ≡ true
+    → release (next r) (side t p) .stopped ≡ false
+    → Acked card t p r y b
 
 -- ---- "PSNs compared as plain numbers, wrong at 16,777,215."
 
@@ -89,6 +105,10 @@ pub record TurnsRound (k : ℕ) (s : Side) : Type 0 where
       → response (plus r k) (turned k s) ≡ turnedOutcome k (response r s)
   pub timer-step : (e : ℕ) → timer e (turned k s) ≡ turnedOutcome k (timer e s)
 
+-- of every open pair of audited tables, and every turn
+abbrev pub AnyTurn : Card → Type 0
+AnyTurn card = (t : Tables) → Audit card t → (p : ℕ) → p < card .pairs → 0 < side t p .standing .state → (k : ℕ) → TurnsRound k (side t p)
+
 -- ---- "An ACK past an unanswered read that frees the read."
 
 -- every slot of pair p that holds a read stays in its queue, and the read's first unanswered PSN is what it was
@@ -96,3 +116,11 @@ pub record ReadsStay (p : ℕ) (t n : Tables) : Type 0 where
   pub stay : (i : ℕ) → 1 ≤ times i (queue t p) → isRead (slotAt (t .slots) i .packet) ≡ true → times i (queue n p) ≡ 1
   pub unanswered-kept : (i : ℕ) → 1 ≤ times i (queue t p) → isRead (slotAt (t .slots) i .packet) ≡ true
       → unanswered (side n p .standing) (slotAt (t .slots) i .packet) ≡ unanswered (side t p .standing) (slotAt (t .slots) i .packet)
+
+-- of every acknowledgement, whatever its syndrome and the tables, that does not end the pair
+abbrev pub AckKeepsReads : Card → Type 0
+AckKeepsReads card =
+    (t : Tables) (p r y : ℕ) (b : List ℕ) (answer : Answer) (messages place : ℕ)
+    → call card (on p (acknowledging r y b)) t .said .reply ≡ Answered answer messages place
+    → answer ≢ Ended
+    → ReadsStay p t (call card (on p (acknowledging r y b)) t .next)

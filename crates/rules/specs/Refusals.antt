@@ -5,7 +5,7 @@ use Prim.Native.Nat.{ℕ, _+_}
 use lib.Dec.{ltb, leb, eqb}
 use lib.ListN.{length, getD}
 use Rattle.psn.specs.Psn.{half, distance}
-use Rattle.refusal.specs.Refusals.{Line, _gives_}
+use Rattle.refusal.specs.Refusals.{Row, _gives_}
 use Rattle.rules.specs.declared.Packet.{Packet}
 use Rattle.rules.specs.declared.Settings.{Settings}
 use Rattle.rules.specs.declared.Post.{Post}
@@ -89,7 +89,7 @@ noRoom card p m a =
     lacksRoom (card .slots) (st .ceiling) (claims a) p (record { share = st .share; held = length (s .packets) + slotsFor st m })
 
 -- "then 1 to 9": of a request to pair p, where the pairs stand as a says
-abbrev pub refusals : Card → Request → ℕ → List Side → List Line
+abbrev pub refusals : Card → Request → ℕ → List Side → List Row
 refusals card q p a =
     let s = sideAt a p in
     let st = s .standing .settings in

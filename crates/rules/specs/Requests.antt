@@ -7,7 +7,7 @@ use Rattle.rules.specs.declared.Answer.{Answer}
 use Rattle.rules.specs.declared.Answer.the-variants.{Dropped, Done, Resending, Held, Resumed, Idle, Ended}
 use Rattle.rules.specs.declared.Reply.{Reply}
 use Rattle.rules.specs.declared.Reply.the-variants.{Refused, Answered, First, Count}
-use Rattle.rules.specs.Card.{Card, numbers}
+use Rattle.rules.specs.Card.{Card, completionBuffer}
 use Rattle.rules.specs.Emission.{recordBytes}
 
 -- of one pair: the arguments, and the lent buffer (bytes for an emission, numbers for the others)
@@ -40,10 +40,10 @@ abbrev pub needed : Card → Request → ℕ
 needed card (opening st a) = 0
 needed card (posting m) = 0
 needed card (emitting n b) = recordBytes * n
-needed card (acknowledging r y b) = numbers card
-needed card (responding r o l b) = numbers card
-needed card (ticking e b) = numbers card
-needed card (closing b) = numbers card
+needed card (acknowledging r y b) = completionBuffer card
+needed card (responding r o l b) = completionBuffer card
+needed card (ticking e b) = completionBuffer card
+needed card (closing b) = completionBuffer card
 
 -- ---- each answer's number and values: the refusal's number, or 0; then what 01 says the answer holds
 

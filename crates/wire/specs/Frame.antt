@@ -5,7 +5,7 @@ use Prim.Native.Nat.{ℕ, _-_, _%_}
 use lib.Dec.{ltb, eqb}
 use lib.ListN.{length, take, getD}
 use Rattle.refusal.specs.Choice.{if_then_else_, anyOf}
-use Rattle.refusal.specs.Refusals.{Line, _gives_, firstGiven}
+use Rattle.refusal.specs.Refusals.{Row, _gives_, firstGiven}
 use Rattle.wire.specs.Bytes.{number}
 use Rattle.wire.specs.Layout as fields
 use Rattle.wire.specs.Layout.{Name, field}
@@ -44,12 +44,12 @@ valueIn s n = field n (layout (opcodeOf s)) (number (take (lengthOf s) s))
 abbrev pub restOf : List ℕ → ℕ
 restOf s = length s - lengthOf s
 
--- "14: rest after headers not a multiple of 4, smaller than the pad count, or not empty for opcode 12 or 17"
+-- 14: "rest after headers not a multiple of 4, smaller than the pad count, or not empty for opcode 12 or 17"
 abbrev pub isBadRest : ℕ → ℕ → Bool → Bool
 isBadRest rest pad bare = anyOf (not (eqb (rest % 4) 0) ∷ ltb rest pad ∷ (bare && ltb 0 rest) ∷ [])
 
--- "11: frame shorter than its headers (below 12 bytes, or below what its opcode needs); 12: opcode not 0 to 17; 13: transport version not 0"
-abbrev pub frameRefusals : List ℕ → List Line
+-- 11: "frame shorter than its headers (below 12 bytes, or below what its opcode needs)"; 12: "opcode not 0 to 17"; 13: "transport version not 0"
+abbrev pub frameRefusals : List ℕ → List Row
 frameRefusals s =
     ltb (length s) 12 gives 11
     ∷ not (known (opcodeOf s)) gives 12

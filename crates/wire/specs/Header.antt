@@ -6,7 +6,7 @@ use lib.Dec.{leb, ltb, eqb}
 use lib.ListN.{replicate}
 use Rattle.psn.specs.Psn.{psns}
 use Rattle.refusal.specs.Choice.{if_then_else_, anyOf}
-use Rattle.refusal.specs.Refusals.{Line, _gives_, firstGiven}
+use Rattle.refusal.specs.Refusals.{Row, _gives_, firstGiven}
 use Rattle.wire.specs.Bytes.{bytes}
 use Rattle.wire.specs.Layout as fields
 use Rattle.wire.specs.Layout.{Name, laid}
@@ -47,7 +47,7 @@ written h = bytes (headerLength (h .opcode)) (laid (put h) (layout (h .opcode)))
 abbrev pub isOutOfRange : Header → Bool
 isOutOfRange h = anyOf (ltb 3 (h .pad) ∷ leb (2 ^ 24) (h .far) ∷ leb psns (h .psn) ∷ leb (2 ^ 24) (h .msn) ∷ [])
 
-abbrev pub writeRefusals : Header → List Line
+abbrev pub writeRefusals : Header → List Row
 writeRefusals h = isOutOfRange h gives 3 ∷ not (known (h .opcode)) gives 12 ∷ []
 
 -- "the 32 bytes are then zeros"

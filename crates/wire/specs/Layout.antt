@@ -34,7 +34,7 @@ bth =
     ∷ ackReq bits 1 ∷ reservedBits bits 7 ∷ psn bits 24
     ∷ []
 
--- "RETH, 16 bytes: address 64, key 32, length 32"
+-- "RETH, 16 bytes ..: address 64, key 32, length 32"
 abbrev pub reth : Layout
 reth = address bits 64 ∷ key bits 32 ∷ dmaLength bits 32 ∷ []
 
@@ -42,7 +42,7 @@ reth = address bits 64 ∷ key bits 32 ∷ dmaLength bits 32 ∷ []
 abbrev pub immediateData : Layout
 immediateData = immediate bits 32 ∷ []
 
--- "AETH, 4 bytes: syndrome 8, MSN 24"
+-- "AETH, 4 bytes ..: syndrome 8, MSN 24"
 abbrev pub aeth : Layout
 aeth = syndrome bits 8 ∷ msn bits 24 ∷ []
 

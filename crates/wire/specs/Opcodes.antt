@@ -12,15 +12,15 @@ use Rattle.wire.specs.declared.opcode.Carries.{Carries}
 abbrev pub known : ℕ → Bool
 known op = leb op 17
 
--- "RETH (opcodes 6, 10, 11, 12)"
+-- "RETH, 16 bytes (opcodes 6, 10, 11, 12)"
 abbrev pub hasReth : ℕ → Bool
 hasReth op = among op (6 ∷ 10 ∷ 11 ∷ 12 ∷ [])
 
--- "Immediate (3, 5, 9, 11), after RETH"
+-- "Immediate, 4 bytes (3, 5, 9, 11), after RETH."
 abbrev pub hasImmediate : ℕ → Bool
 hasImmediate op = among op (3 ∷ 5 ∷ 9 ∷ 11 ∷ [])
 
--- "AETH (13, 15, 16, 17)"
+-- "AETH, 4 bytes (13, 15, 16, 17)"
 abbrev pub hasAeth : ℕ → Bool
 hasAeth op = among op (13 ∷ 15 ∷ 16 ∷ 17 ∷ [])
 

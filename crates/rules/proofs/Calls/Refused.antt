@@ -19,7 +19,7 @@ use Rattle.rules.specs.Passes.Tables.{passes}
 use Rattle.rules.specs.Refusals.{sideAt, refusals}
 use Rattle.rules.specs.Requests.{Request, opening, posting, emitting, acknowledging, responding, ticking, closing, starting, on, lent}
 use Rattle.rules.proofs.Passes.Decided.{sound, complete}
-use Rattle.refusal.specs.Refusals.{Line, _gives_, firstGiven}
+use Rattle.refusal.specs.Refusals.{Row, _gives_, firstGiven}
 use Rattle.rules.proofs.Calls.Agrees.{refused-inj}
 
 module _ (card : Card) (t : Tables) (n : ℕ) where
@@ -47,11 +47,11 @@ module _ (card : Card) (t : Tables) (n : ℕ) where
       (λ e. rw e (λ r. let z : _≡_ {A = ℕ} 0 1 = cc in absurd (omega arith)))
       (λ e. rw e (λ r. refl))
 
--- the numbers of the lines
-abbrev Low : List Line → Type 0
-Low ls = Each (λ (l : Line). l .number ≤ 9) ls
+-- the one-to-nine of the lines
+abbrev Low : List Row → Type 0
+Low ls = Each (λ (l : Row). l .number ≤ 9) ls
 
-given-low : (ls : List Line) → Low ls → firstGiven ls ≤ 9
+given-low : (ls : List Row) → Low ls → firstGiven ls ≤ 9
 given-low [] h = omega arith
 given-low (l ∷ ls) h = if-case (λ (n : ℕ). n ≤ 9) (l .holds) (λ _. h .0) (λ _. given-low ls (h .1))
 
@@ -72,9 +72,9 @@ module _ (card : Card) where
   unaudited t p q e = rw e
 
   -- from audited tables refusals are 1 to 9
-  pub numbers : (t : Tables) → Audit card t → (p : ℕ) (q : Request) (n : ℕ) → call card (on p q) t .said .reply ≡ Refused n → n ≤ 9
+  pub one-to-nine : (t : Tables) → Audit card t → (p : ℕ) (q : Request) (n : ℕ) → call card (on p q) t .said .reply ≡ Refused n → n ≤ 9
   unfolding call
-  numbers t a p q n =
+  one-to-nine t a p q n =
       rw (complete card t a)
       (by-test (eqb (firstGiven (refusals card q p (sides t))) 0)
       (λ e. rw e (λ r. absurd (no-refusal card t n q (sideAt (sides t) p) r)))

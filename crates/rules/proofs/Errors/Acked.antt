@@ -27,7 +27,7 @@ use Rattle.rules.specs.Slots.{Tables, slotAt, free, queue, times, sideOf
 use Rattle.rules.specs.Order.{_or_, left, right}
 use Rattle.rules.specs.Audit.{Whole, Audit}
 use Rattle.rules.specs.Calls.{call}
-use Rattle.rules.specs.Errors.{After, UpTo, NoneUpTo, Acked}
+use Rattle.rules.specs.Errors.{After, UpTo, NoneUpTo, Acked, AckFrees}
 use Rattle.rules.specs.Passes.Tables.{passes}
 use Rattle.rules.specs.Refusals.{sideAt, refusals}
 use Rattle.rules.specs.Requests.{acknowledging, on}
@@ -206,12 +206,7 @@ module _ (card : Card) (t : Tables) (a : Audit card t) (p r y : ℕ) (b : List �
   next-tables = rw (complete card t a, given, side-at t p, cleared-is r y (side t p) top within e, add-zero (release (next r) (side t p) .released))
 
 -- an ACK of R that meets none of 1 to 9, is not dropped and not stopped: "done", all packets up to R gone and no other, their slots free, U past R
-pub acked : (card : Card) (t : Tables) → Audit card t → (p r y : ℕ) (b : List ℕ)
-    → firstGiven (refusals card (acknowledging r y b) p (sides t)) ≡ 0
-    → topBits y ≡ 0
-    → inside r (side t p) ≡ true
-    → release (next r) (side t p) .stopped ≡ false
-    → Acked card t p r y b
+pub acked : (card : Card) → AckFrees card
 unfolding none-up-to
 acked card t a p r y b given top within e =
     record {

@@ -29,7 +29,7 @@ use Rattle.rules.specs.Slots.{Tables, slotAt, queue, times, sideOf, side
 use Rattle.rules.specs.Order.{_or_, left, right}
 use Rattle.rules.specs.Audit.{Whole}
 use Rattle.rules.specs.Calls.{call}
-use Rattle.rules.specs.Errors.{ReadsStay}
+use Rattle.rules.specs.Errors.{ReadsStay, AckKeepsReads}
 use Rattle.rules.specs.Passes.Tables.{passes}
 use Rattle.rules.specs.Refusals.{sideAt, refusals}
 use Rattle.rules.specs.Requests.{acknowledging, on}
@@ -210,10 +210,10 @@ module _ (card : Card) (t : Tables) (w : Whole card t) (p : ℕ) (low : p < card
 module _ (card : Card)
     (t : Tables) (p r y : ℕ) (b : List ℕ) (answer : Answer) (messages place : ℕ) where
   -- a slot that holds a read stays in its pair's queue, and the read's first unanswered PSN is what it was
-  pub reads-stay : call card (on p (acknowledging r y b)) t .said .reply ≡ Answered answer messages place → answer ≢ Ended
+  stay-when : call card (on p (acknowledging r y b)) t .said .reply ≡ Answered answer messages place → answer ≢ Ended
       → ReadsStay p t (call card (on p (acknowledging r y b)) t .next)
   unfolding call
-  reads-stay =
+  stay-when =
       by-test (passes card t)
       (λ e. rw e (by-test (eqb (firstGiven (refusals card (acknowledging r y b) p (sides t))) 0)
       (λ q. rw q (λ d n.
@@ -228,3 +228,6 @@ module _ (card : Card)
       (λ z. n (cc))))
       (λ q. rw q (λ d. let z : _≡_ {A = ℕ} 0 1 = cc in absurd (omega arith)))))
       (λ e. rw e (λ d. let z : _≡_ {A = ℕ} 0 1 = cc in absurd (omega arith)))
+
+pub reads-stay : (card : Card) → AckKeepsReads card
+reads-stay = stay-when

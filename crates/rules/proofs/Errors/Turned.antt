@@ -27,9 +27,9 @@ use Rattle.rules.specs.Release.{advanced, passedBy, Release, release}
 use Rattle.rules.specs.Acknowledge.{inside, resending, ack, nak, endedAfter, rnr, waitOf, acknowledge}
 use Rattle.rules.specs.Response.{covers, readAt, atLast, unfit, taken, response}
 use Rattle.rules.specs.Timer.{timeoutOf, timer}
-use Rattle.rules.specs.Slots.{Tables, side}
-use Rattle.rules.specs.Audit.{Bounded, Audit}
-use Rattle.rules.specs.Errors.{turnedPacket, turnedStanding, turned, turnedOutcome, TurnsRound}
+use Rattle.rules.specs.Slots.{side}
+use Rattle.rules.specs.Audit.{Bounded}
+use Rattle.rules.specs.Errors.{turnedPacket, turnedStanding, turned, turnedOutcome, TurnsRound, AnyTurn}
 use Rattle.rules.proofs.Slots.Lists.{map-drop}
 use Rattle.rules.proofs.Sides.Order.{ahead-most}
 use Rattle.rules.proofs.Errors.Turning.{
@@ -251,7 +251,7 @@ taken-response-turns k s low r opcode len l fits = response-turned k s low r l (
         omega (arith, eqb-false (ahead (covers (s .standing .settings) r) (s .packets)) (length (s .packets)) e, ahead-most (covers (s .standing .settings) r) (s .packets))
 
 -- of every open pair of audited tables
-pub audited-turns : (card : Card) (t : Tables) → Audit card t → (p : ℕ) → p < card .pairs → 0 < side t p .standing .state → (k : ℕ) → TurnsRound k (side t p)
+pub audited-turns : (card : Card) → AnyTurn card
 audited-turns card t a p h o k = turns-round k (side t p) (low (a .bounded p h o))
   where
     low : Bounded card (side t p) → Low (side t p)
