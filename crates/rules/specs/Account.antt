@@ -47,6 +47,7 @@ noStanding =
       clock = record { retries = 0; rnrs = 0; elapsed = 0; hold = 0 };
     }
 
+-- a closed pair's side
 abbrev pub noSide : Side
 noSide = record { standing = noStanding; packets = [] }
 

@@ -25,11 +25,11 @@ abbrev pub asksRead : Post → Bool
 asksRead m = eqb (m .kind) 2
 
 -- "A Send or Write takes that many slots and PSNs, a read one slot and that many PSNs."
-abbrev pub slotsFor : Settings → Post → ℕ
-slotsFor s m = if asksRead m then 1 else packetsFor (pmtu s) (m .length)
-
 abbrev pub psnsFor : Settings → Post → ℕ
 psnsFor s m = packetsFor (pmtu s) (m .length)
+
+abbrev pub slotsFor : Settings → Post → ℕ
+slotsFor s m = if asksRead m then 1 else psnsFor s m
 
 -- "Send First 0, Middle 1, Last 2, Last with immediate 3, Only 4, Only with immediate 5; Write 6 to 11 alike": at place i of n
 abbrev pub opcodeAt : Post → ℕ → ℕ → ℕ

@@ -89,7 +89,7 @@ module _ (card : Card) (t : Tables) (w : Whole card t) where
         run : Spells (card .none) (t .slots) (pairAt (t .pairs) r .queue) (queue t r)
         run = w .pairs-run r h
 
-    -- (c) the account: p's side is as given, and no other side moves
+    -- the account: p's side is as given, and no other side moves
     pub side-after : side (arranged (card .none) p st Q F s t) p ≡ record { standing = st; packets = map (λ i. slotAt s i .packet) Q }
     unfolding side sideOf arranged
     side-after = λ i. record { standing = standing i; packets = packets i }
@@ -152,7 +152,7 @@ module _ (card : Card) (t : Tables) (w : Whole card t) where
           rw times-append at (w .once i h),
         ))
 
-    -- (6) whole tables stay whole
+    -- whole tables stay whole
     pub whole-after : ((st .state ≡ 1 → ⊥) → length Q ≡ 0) → Whole card (arranged (card .none) p st Q F s t)
     unfolding arranged
     whole-after few =

@@ -40,7 +40,7 @@ module _ (card : Card) (t : Tables) (w : Whole card t) where
         whole-after card t w p hp st _ _ (t .slots) refl (λ i. refl) (λ i z. refl) freed-share freed-many
         (λ n. omega (arith, length-drop k (queue t p), few n))
 
-    -- (b) what is written: the links of the longer free list only
+    -- what is written: the links of the longer free list only
     pub freed-slots : freed (card .none) p st k t .slots ≡ chain (card .none) (free t ++ take k (queue t p)) (t .slots)
     unfolding arranged
     freed-slots = rw (chain-linked (card .none) (drop k (queue t p)) (t .slots) (linked-drop (card .none) k (t .slots) (queue t p) (w .pairs-run p hp .linked)))

@@ -158,11 +158,11 @@ module _ (none : ℕ) where
   linked-drop (suc k) s [] h = tt
   linked-drop (suc k) s (a ∷ l) h = linked-drop k s l (h .1)
 
-  -- (a) the links of a chain spell it, and leave every list apart from it as it was
+  -- the links of a chain spell it, and leave every list apart from it as it was
   pub follow-chain : (l : List ℕ) (s : List Slot) → Distinct l → Below (length s) l → follow (chain none l s) (firstOf none l) (length l) ≡ l
   follow-chain l s d b = linked-follow (chain none l s) l (linked-chain l s d b)
 
-  -- (b) to write the links of `f` and then `m`, where those of `f` are there (but for the last, e): one link joins the two
+  -- to write the links of `f` and then `m`, where those of `f` are there (but for the last, e): one link joins the two
   pub chain-join : (e a : ℕ) (f m : List ℕ) (s : List Slot) → Distinct (a ∷ f) → Apart (a ∷ f) m → Linked e s (a ∷ f)
       → chain none ((a ∷ f) ++ m) s ≡ relinked (lastOf none (a ∷ f)) (firstOf none m) (chain none m s)
   chain-join e a [] m s d p h = refl
