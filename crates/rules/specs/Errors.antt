@@ -1,10 +1,9 @@
 -- "Errors of this trade", each as what shuts it out. Their proofs are in proofs/Errors.
 use mathlib.Core.Path.{_≡_}
 use mathlib.Core.Logic.{_≢_}
-use mathlib.Core.Bool.{true, false}
+use mathlib.Core.Bool.{true, false, _&&_}
 use mathlib.Core.List.{List, _++_, map}
 use Prim.Native.Nat.{ℕ, _≤_, _<_}
-use lib.ListN.{length}
 use Rattle.psn.specs.Psn.{psns, distance, plus, next}
 use Rattle.refusal.specs.Choice.{Each}
 use Rattle.refusal.specs.Refusals.{firstGiven}
@@ -16,14 +15,14 @@ use Rattle.rules.specs.declared.Answer.{Answer}
 use Rattle.rules.specs.declared.Answer.the-variants.{Done, Ended}
 use Rattle.rules.specs.declared.Reply.the-variants.{Answered}
 use Rattle.rules.specs.Card.{Card}
-use Rattle.rules.specs.Account.{Side, U, moved, ahead}
+use Rattle.rules.specs.Account.{Side, U, N, moved}
 use Rattle.rules.specs.Message.{isRead, unanswered}
 use Rattle.rules.specs.Ranges.{topBits}
 use Rattle.rules.specs.Posting.{posted}
 use Rattle.rules.specs.Outcome.{Outcome, leftWith, messagesOf}
 use Rattle.rules.specs.Release.{release}
 use Rattle.rules.specs.Acknowledge.{inside, acknowledge}
-use Rattle.rules.specs.Response.{covers, response}
+use Rattle.rules.specs.Response.{unfit, response}
 use Rattle.rules.specs.Timer.{timer}
 use Rattle.rules.specs.Emission.{emitted}
 use Rattle.rules.specs.Slots.{Tables, slotAt, queue, free, times, side, sides}
@@ -100,10 +99,14 @@ pub record TurnsRound (k : ℕ) (s : Side) : Type 0 where
   pub post : (m : Post) → posted m (turned k s) ≡ turned k (posted m s)
   pub emission : (budget : ℕ) → emitted budget (turned k s) ≡ turned k (emitted budget s)
   pub acknowledgement : (r syndrome : ℕ) → r < psns → acknowledge (plus r k) syndrome (turned k s) ≡ turnedOutcome k (acknowledge r syndrome s)
-  -- of any response that 9 does not refuse: R, where it is inside, is one of a read's PSNs
-  pub read-response : (r : ℕ) → r < psns → (inside r s ≡ true → ahead (covers (s .standing .settings) r) (s .packets) < length (s .packets))
+  -- of any response that 9 does not refuse
+  pub read-response : (r opcode len : ℕ) → r < psns → inside r s && unfit r opcode len s ≡ false
       → response (plus r k) (turned k s) ≡ turnedOutcome k (response r s)
   pub timer-step : (e : ℕ) → timer e (turned k s) ≡ turnedOutcome k (timer e s)
+  -- and what 7 and 9 ask of PSNs
+  pub reach : distance (U (turned k s)) (N (turned k s)) ≡ distance (U s) (N s)
+  pub unfitting : (r opcode len : ℕ) → r < psns
+      → inside (plus r k) (turned k s) && unfit (plus r k) opcode len (turned k s) ≡ inside r s && unfit r opcode len s
 
 -- of every open pair of audited tables, and every turn
 abbrev pub AnyTurn : Card → Type 0

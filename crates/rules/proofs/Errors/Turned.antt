@@ -10,7 +10,7 @@ use borrow.Author.Tests.{ltb-true, eqb-false, not-false}
 use Rattle.psn.specs.Psn.{psns, distance, plus, next, before}
 use Rattle.psn.proofs.Laws.{plus-below}
 use Rattle.refusal.specs.Choice.{if_then_else_, Each}
-use Rattle.refusal.proofs.Cases.{if-case, or-left}
+use Rattle.refusal.proofs.Cases.{by-test, if-case, or-left}
 use Rattle.refusal.proofs.Each.{each-at}
 use Rattle.rules.specs.declared.Packet.{Packet}
 use Rattle.rules.specs.declared.Settings.{Settings}
@@ -165,6 +165,16 @@ module _ (k : ℕ) (s : Side) where
     ack-turned : (r : ℕ) → ack (plus r k) (turned k s) ≡ turnedOutcome k (ack r s)
     ack-turned r = rw (next-turned r) (if-turned (turnedOutcome k) (release (next r) s .stopped) refl (λ _. refl) (λ _. refl))
 
+    -- a place where some read covers r is inside the list
+    found-at : (r : ℕ) → eqb (ahead (covers (s .standing .settings) r) (s .packets)) (length (s .packets)) ≡ false
+        → ahead (covers (s .standing .settings) r) (s .packets) < length (s .packets)
+    found-at r e =
+        omega (
+          arith,
+          eqb-false (ahead (covers (s .standing .settings) r) (s .packets)) (length (s .packets)) e,
+          ahead-most (covers (s .standing .settings) r) (s .packets),
+        )
+
     module _ (r : ℕ) (l : r < psns) where
       nak-turned : nak (plus r k) (turned k s) ≡ turnedOutcome k (nak r s)
       nak-turned = ap resending (release-turned r l)
@@ -194,6 +204,17 @@ module _ (k : ℕ) (s : Side) where
 
         last-turned : atLast (plus r k) (turned k s) ≡ atLast r s
         last-turned = rw (read-turned, distance-turned k (readAt r s .psn) r)
+
+      same-place : ahead (covers (s .standing .settings) (plus r k)) (turned k s .packets) ≡ ahead (covers (s .standing .settings) r) (s .packets)
+      same-place = ahead-map (turnedPacket k) _ (covers (s .standing .settings) r) (covers-turned k (s .standing .settings) r) (s .packets)
+
+      unfit-turned : (opcode len : ℕ) → unfit (plus r k) opcode len (turned k s) ≡ unfit r opcode len s
+      unfit-turned opcode len =
+          by-test (eqb (ahead (covers (s .standing .settings) r) (s .packets)) (length (s .packets)))
+          (λ e. rw (same-place, count-turned, e))
+          (λ e.
+          let h = found-at r e in
+          rw (read-turned h, distance-turned k (readAt r s .psn) r, same-place, count-turned))
 
       response-turned : (inside r s ≡ true → ahead (covers (s .standing .settings) r) (s .packets) < length (s .packets))
           → response (plus r k) (turned k s) ≡ turnedOutcome k (response r s)
@@ -236,21 +257,13 @@ turns-round k s low =
       post = posted-turned k s;
       emission = emitted-turned k s;
       acknowledgement = λ r syndrome l. acknowledge-turned k s low r l syndrome;
-      read-response = response-turned k s low;
+      read-response =
+          λ r opcode len l fits. response-turned k s low r l (λ h. found-at k s low r (or-left _ _ (or-left _ _ (rw h at fits))));
       timer-step = timer-turned k s low;
+      reach = distance-turned k (U s) (N s);
+      unfitting = λ r opcode len l. ap₂ (λ (a b : Bool). a && b) (inside-turned k s r) (unfit-turned k s low r l opcode len);
     }
 
--- of every response that 9 does not refuse
-pub taken-response-turns : (k : ℕ) (s : Side) → Low s → (r opcode len : ℕ) → r < psns → inside r s && unfit r opcode len s ≡ false
-    → response (plus r k) (turned k s) ≡ turnedOutcome k (response r s)
-taken-response-turns k s low r opcode len l fits = response-turned k s low r l (λ h. found (or-left _ _ (or-left _ _ (rw h at fits))))
-  where
-    found : eqb (ahead (covers (s .standing .settings) r) (s .packets)) (length (s .packets)) ≡ false
-        → ahead (covers (s .standing .settings) r) (s .packets) < length (s .packets)
-    found e =
-        omega (arith, eqb-false (ahead (covers (s .standing .settings) r) (s .packets)) (length (s .packets)) e, ahead-most (covers (s .standing .settings) r) (s .packets))
-
--- of every open pair of audited tables
 pub audited-turns : (card : Card) → AnyTurn card
 audited-turns card t a p h o k = turns-round k (side t p) (low (a .bounded p h o))
   where
