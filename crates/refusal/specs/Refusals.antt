@@ -1,4 +1,4 @@
--- "Refusal numbers": a table of lines `test gives number`, of which the first that holds is given.
+-- "Refusal numbers": a table of rows `test gives number`, of which the first that holds is given.
 -- Assumes nothing.
 use mathlib.Core.Bool.{Bool}
 use mathlib.Core.List.{List, [], _∷_}
@@ -13,7 +13,7 @@ pub record Row : Type 0 where
 abbrev pub _gives_ : Bool → ℕ → Row
 t gives n = record { holds = t; number = n }
 
--- the number of the first line that holds, or 0
+-- the number of the first row that holds, or 0
 abbrev pub firstGiven : List Row → ℕ
 firstGiven [] = 0
 firstGiven (l ∷ ls) = if l .holds then l .number else firstGiven ls

@@ -52,8 +52,8 @@ abbrev pub noSide : Side
 noSide = record { standing = noStanding; packets = [] }
 
 -- the same pair with this line and this clock
-abbrev pub moved : Line → Clock → Standing → Standing
-moved l c t = record { state = t .state; settings = t .settings; line = l; clock = c }
+abbrev pub updated : Line → Clock → Standing → Standing
+updated l c t = record { state = t .state; settings = t .settings; line = l; clock = c }
 
 -- the further of x and y, by distance from u
 abbrev pub further : ℕ → ℕ → ℕ → ℕ

@@ -8,7 +8,7 @@ use Rattle.psn.specs.Psn.{distance, next}
 use Rattle.refusal.specs.Choice.{if_then_else_}
 use Rattle.rules.specs.declared.Standing.{Standing}
 use Rattle.rules.specs.declared.Answer.the-variants.{Done, Resending, Held, Ended}
-use Rattle.rules.specs.Account.{Side, U, H, moved}
+use Rattle.rules.specs.Account.{Side, U, H, updated}
 use Rattle.rules.specs.Ranges.{topBits, lowBits}
 use Rattle.rules.specs.Outcome.{Outcome, dropped, endedStanding}
 use Rattle.rules.specs.Release.{Release, release}
@@ -21,7 +21,7 @@ inside r s = ltb (distance (U s) r) (distance (U s) (H s))
 abbrev pub backToU : ℕ → ℕ → ℕ → Standing → Standing
 backToU retries rnrs hold t =
     let l = t .line in
-    moved (record { u = l .u; x = l .u; h = l .h; n = l .n }) (record { retries = retries; rnrs = rnrs; elapsed = 0; hold = hold }) t
+    updated (record { u = l .u; x = l .u; h = l .h; n = l .n }) (record { retries = retries; rnrs = rnrs; elapsed = 0; hold = hold }) t
 
 -- a release, and then "X becomes U, elapsed 0, "resending""
 abbrev pub resending : Release → Outcome

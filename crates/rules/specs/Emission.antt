@@ -12,7 +12,7 @@ use Rattle.wire.specs.Header.{headerBytes, writeOf}
 use Rattle.rules.specs.declared.Packet.{Packet}
 use Rattle.rules.specs.declared.Settings.{Settings}
 use Rattle.rules.specs.declared.Standing.{Standing}
-use Rattle.rules.specs.Account.{Side, U, X, H, N, moved, further, ahead}
+use Rattle.rules.specs.Account.{Side, U, X, H, N, updated, further, ahead}
 use Rattle.rules.specs.Message.{pmtu, isRead, span, unanswered}
 
 -- where a record ends: the PSN after its last
@@ -40,7 +40,7 @@ unfoldable pub emitted : ℕ → Side → Side
 emitted budget s =
     let t = s .standing in
     let x = endsAt (t .settings) (X s) (outgoing budget s) in
-    record { standing = moved (record { u = U s; x = x; h = further (U s) (H s) x; n = N s }) (t .clock) t; packets = s .packets }
+    record { standing = updated (record { u = U s; x = x; h = further (U s) (H s) x; n = N s }) (t .clock) t; packets = s .packets }
 
 -- ---- the records
 

@@ -15,7 +15,7 @@ use Rattle.rules.specs.declared.Answer.{Answer}
 use Rattle.rules.specs.declared.Answer.the-variants.{Done, Ended}
 use Rattle.rules.specs.declared.Reply.the-variants.{Answered}
 use Rattle.rules.specs.Card.{Card}
-use Rattle.rules.specs.Account.{Side, U, N, moved}
+use Rattle.rules.specs.Account.{Side, U, N, updated}
 use Rattle.rules.specs.Message.{isRead, unanswered}
 use Rattle.rules.specs.Ranges.{topBits}
 use Rattle.rules.specs.Posting.{posted}
@@ -85,7 +85,7 @@ abbrev pub turnedLine : ℕ → Line → Line
 turnedLine k l = record { u = plus (l .u) k; x = plus (l .x) k; h = plus (l .h) k; n = plus (l .n) k }
 
 abbrev pub turnedStanding : ℕ → Standing → Standing
-turnedStanding k t = moved (turnedLine k (t .line)) (t .clock) t
+turnedStanding k t = updated (turnedLine k (t .line)) (t .clock) t
 
 abbrev pub turned : ℕ → Side → Side
 turned k s = record { standing = turnedStanding k (s .standing); packets = map (turnedPacket k) (s .packets) }

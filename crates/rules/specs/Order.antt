@@ -19,9 +19,9 @@ module _ (size : Packet → ℕ) where
   Runs u o (p ∷ ps) n = (distance u (p .psn) ≡ o) × Runs u (o + size p) ps n
 
   -- the "queue starts at U (its first record may be a read partly answered up to U)": U is one of its first record's PSNs. "an empty queue has U = N"
-  abbrev pub Starts : ℕ → List Packet → ℕ → Type 0
-  Starts u [] n = 0 ≡ distance u n
-  Starts u (p ∷ ps) n = (distance (p .psn) u < size p) × Runs u (size p - distance (p .psn) u) ps n
+  abbrev pub StartsAtU : ℕ → List Packet → ℕ → Type 0
+  StartsAtU u [] n = 0 ≡ distance u n
+  StartsAtU u (p ∷ ps) n = (distance (p .psn) u < size p) × Runs u (size p - distance (p .psn) u) ps n
 
   -- "H is past a partly answered read"
   abbrev pub Past : ℕ → ℕ → List Packet → Type 0
@@ -38,7 +38,7 @@ abbrev pub Stands : ℕ → Side → Type 0
 Stands a s = (a ≡ U s) or (a ≡ N s) or Start a (s .packets)
 
 pub record Ordered (s : Side) : Type 0 where
-  pub starts : Starts (span (s .standing .settings)) (U s) (s .packets) (N s)
+  pub starts : StartsAtU (span (s .standing .settings)) (U s) (s .packets) (N s)
   -- "U, X, H, N lie in that order by distance, N at most 8,388,607 from U"
   pub u-x-h : distance (U s) (X s) ≤ distance (U s) (H s)
   pub u-h-n : distance (U s) (H s) ≤ distance (U s) (N s)

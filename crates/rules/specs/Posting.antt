@@ -2,7 +2,7 @@
 use mathlib.Core.List.{_++_}
 use Rattle.psn.specs.Psn.{plus}
 use Rattle.rules.specs.declared.Post.{Post}
-use Rattle.rules.specs.Account.{Side, N, moved}
+use Rattle.rules.specs.Account.{Side, N, updated}
 use Rattle.rules.specs.Message.{psnsFor, packetsOf}
 
 unfoldable pub posted : Post → Side → Side
@@ -10,6 +10,6 @@ posted m s =
     let t = s .standing in
     let l = t .line in
     record {
-      standing = moved (record { u = l .u; x = l .x; h = l .h; n = plus (l .n) (psnsFor (t .settings) m) }) (t .clock) t;
+      standing = updated (record { u = l .u; x = l .x; h = l .h; n = plus (l .n) (psnsFor (t .settings) m) }) (t .clock) t;
       packets = s .packets ++ packetsOf (t .settings) m (N s);
     }

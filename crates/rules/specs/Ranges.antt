@@ -10,8 +10,8 @@ use Rattle.rules.specs.declared.Post.{Post}
 use Rattle.rules.specs.Card.{Card}
 use Rattle.rules.specs.Message.{asksRead, slotsFor}
 
--- "Open: far pair and first PSN below 2^24; P_Key any 16 bits; PMTU code 1 to 5 (256, 512, 1024, 2048, 4096 bytes); share 1 to ceiling, ceiling at most 256; retry and RNR retry 0 to 7;
--- timeout code 0 to 31."
+-- "Open: far pair and first PSN below 2^24; P_Key any 16 bits; PMTU code 1 to 5 (256, 512, 1024, 2048, 4096 bytes); share 1 to ceiling, ceiling at most 256;
+-- retry and RNR retry 0 to 7; timeout code 0 to 31."
 abbrev pub settingsFaults : Card → Settings → List Bool
 settingsFaults card s =
     leb psns (s .far)

@@ -9,14 +9,14 @@ use Rattle.rules.specs.declared.Packet.{Packet}
 use Rattle.rules.specs.declared.Settings.{Settings}
 use Rattle.rules.specs.declared.Clock.{Clock}
 use Rattle.rules.specs.declared.Standing.{Standing}
-use Rattle.rules.specs.Account.{Side, moved, further, noPacket, ahead}
+use Rattle.rules.specs.Account.{Side, updated, further, noPacket, ahead}
 use Rattle.rules.specs.Message.{isRead, unanswered}
 
 -- "both retry counts return to their settings and elapsed time to 0"
 abbrev pub renewed : Settings → Clock → Clock
 renewed s c = record { retries = s .retry; rnrs = s .rnr; elapsed = 0; hold = c .hold }
 
--- the same "If U moved", from u to a
+-- that, "If U moved" from u to a; else the clock as it is
 abbrev pub clockAt : ℕ → ℕ → Settings → Clock → Clock
 clockAt u a s c = if eqb a u then c else renewed s c
 
@@ -24,7 +24,7 @@ clockAt u a s c = if eqb a u then c else renewed s c
 abbrev pub advanced : ℕ → Standing → Standing
 advanced a t =
     let l = t .line in
-    moved (record { u = a; x = further (l .u) (l .x) a; h = l .h; n = l .n }) (clockAt (l .u) a (t .settings) (t .clock)) t
+    updated (record { u = a; x = further (l .u) (l .x) a; h = l .h; n = l .n }) (clockAt (l .u) a (t .settings) (t .clock)) t
 
 -- a read whose first unanswered PSN is before B
 abbrev pub passedBy : ℕ → Standing → Packet → Bool

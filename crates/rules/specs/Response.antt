@@ -9,7 +9,7 @@ use Rattle.rules.specs.declared.Packet.{Packet}
 use Rattle.rules.specs.declared.Settings.{Settings}
 use Rattle.rules.specs.declared.Standing.{Standing}
 use Rattle.rules.specs.declared.Answer.the-variants.{Done}
-use Rattle.rules.specs.Account.{Side, U, moved, further, noPacket, ahead}
+use Rattle.rules.specs.Account.{Side, U, updated, further, noPacket, ahead}
 use Rattle.rules.specs.Message.{pmtu, lengthAt, isRead, span}
 use Rattle.rules.specs.Outcome.{Outcome, dropped}
 use Rattle.rules.specs.Release.{renewed, release}
@@ -23,10 +23,11 @@ covers s r p = isRead p && ltb (distance (p .psn) r) (span s p)
 abbrev pub readAt : ℕ → Side → Packet
 readAt r s = getD (s .packets) (ahead (covers (s .standing .settings) r) (s .packets)) noPacket
 
--- how many of its places are before r's; and r's is the last
+-- how many of its places are before r's
 abbrev pub placesBefore : ℕ → Side → ℕ
 placesBefore r s = distance (readAt r s .psn) r
 
+-- r's place is its last
 abbrev pub atLast : ℕ → Side → Bool
 atLast r s = eqb (suc (placesBefore r s)) (span (s .standing .settings) (readAt r s))
 
@@ -52,7 +53,7 @@ placeOf r s = readAt r s .offset + placesBefore r s * pmtu (s .standing .setting
 abbrev pub taken : ℕ → ℕ → Standing → Standing
 taken found a t =
     let l = t .line in
-    moved (record { u = a; x = further found (l .x) a; h = l .h; n = l .n }) (renewed (t .settings) (t .clock)) t
+    updated (record { u = a; x = further found (l .x) a; h = l .h; n = l .n }) (renewed (t .settings) (t .clock)) t
 
 -- "Otherwise release before R. If stopped: X becomes U, elapsed 0, "resending". Else U becomes R + 1, .. "done" ..; at the last place the slot is released."
 unfoldable pub response : ℕ → Side → Outcome

@@ -7,7 +7,7 @@ use Rattle.rules.specs.declared.Settings.{Settings}
 use Rattle.rules.specs.declared.Standing.{Standing}
 use Rattle.rules.specs.declared.Answer.{Answer}
 use Rattle.rules.specs.declared.Answer.the-variants.{Resending, Resumed, Idle}
-use Rattle.rules.specs.Account.{Side, U, H, moved}
+use Rattle.rules.specs.Account.{Side, U, H, updated}
 use Rattle.rules.specs.Outcome.{Outcome, staying, ending}
 use Rattle.rules.specs.Acknowledge.{backToU}
 
@@ -18,7 +18,7 @@ timeoutOf s = 4096 * 2 ^ s .timeout
 -- the two times become these
 abbrev pub ticked : Answer → ℕ → ℕ → Standing → Outcome
 ticked a elapsed hold t =
-    staying a (moved (t .line) (record { retries = t .clock .retries; rnrs = t .clock .rnrs; elapsed = elapsed; hold = hold }) t)
+    staying a (updated (t .line) (record { retries = t .clock .retries; rnrs = t .clock .rnrs; elapsed = elapsed; hold = hold }) t)
 
 -- "take one, X becomes U, elapsed 0, "resending""
 abbrev pub retried : Standing → Outcome

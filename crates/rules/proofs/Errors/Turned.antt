@@ -19,7 +19,7 @@ use Rattle.rules.specs.declared.Standing.{Standing}
 use Rattle.rules.specs.declared.Post.{Post}
 use Rattle.rules.specs.declared.Answer.the-variants.{Done}
 use Rattle.rules.specs.Card.{Card}
-use Rattle.rules.specs.Account.{Side, U, X, H, N, moved, noPacket, ahead, further}
+use Rattle.rules.specs.Account.{Side, U, X, H, N, updated, noPacket, ahead, further}
 use Rattle.rules.specs.Message.{span, psnsFor, packetsOf, unanswered}
 use Rattle.rules.specs.Posting.{posted}
 use Rattle.rules.specs.Emission.{ends, waiting, going, outgoing, endsAt, emitted}
@@ -107,7 +107,7 @@ module _ (k : ℕ) (s : Side) where
       at : ℕ → ℕ → Side
       at y h =
           record {
-            standing = moved (record { u = plus (U s) k; x = y; h = h; n = plus (N s) k }) (s .standing .clock) (s .standing);
+            standing = updated (record { u = plus (U s) k; x = y; h = h; n = plus (N s) k }) (s .standing .clock) (s .standing);
             packets = map (turnedPacket k) (s .packets);
           }
 

@@ -10,7 +10,7 @@ use Rattle.rules.specs.Card.{Card}
 use Rattle.rules.specs.Account.{Side, U, X, H, N}
 use Rattle.rules.specs.Message.{span}
 use Rattle.rules.specs.Slots.{Tables, side}
-use Rattle.rules.specs.Order.{Runs, Starts, Past, Stands, Ordered}
+use Rattle.rules.specs.Order.{Runs, StartsAtU, Past, Stands, Ordered}
 use Rattle.rules.specs.Audit.{Bounded, Audit}
 
 module _ (size : Packet → ℕ) where
@@ -30,11 +30,11 @@ module _ (size : Packet → ℕ) where
   low-runs u o [] n r = r
   low-runs u o (p ∷ ps) n r = (r .1, low-runs u (o + size p) ps n (r .2))
 
-  starts-low : (u : ℕ) (ps : List Packet) (n : ℕ) → Each (λ p. p .psn < psns) ps → Starts size u ps n → StartsLow u ps n
+  starts-low : (u : ℕ) (ps : List Packet) (n : ℕ) → Each (λ p. p .psn < psns) ps → StartsAtU size u ps n → StartsLow u ps n
   starts-low u [] n l r = r
   starts-low u (p ∷ ps) n l r = (l .0, r .0, runs-low u (size p - distance (p .psn) u) ps n (l .1) (r .1))
 
-  low-starts : (u : ℕ) (ps : List Packet) (n : ℕ) → StartsLow u ps n → Starts size u ps n
+  low-starts : (u : ℕ) (ps : List Packet) (n : ℕ) → StartsLow u ps n → StartsAtU size u ps n
   low-starts u [] n r = r
   low-starts u (p ∷ ps) n r = (r .1, low-runs u (size p - distance (p .psn) u) ps n (r .2))
 

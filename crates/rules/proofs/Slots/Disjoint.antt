@@ -1,4 +1,4 @@
--- What an audit may test instead of "each slot once": different last slots, and counts that add up.
+-- What an audit may test in place of each slot standing once: different last slots, and counts that add up.
 use mathlib.Core.Path.{_≡_, refl, sym, ap, _∙_}
 use mathlib.Core.Logic.{_≢_}
 use mathlib.Core.List.{List, [], _∷_}
@@ -135,7 +135,7 @@ tally-ones (suc n) l h = omega (arith, tally-ones n l (λ i k. h i (omega arith)
 pub length-of-once : (n : ℕ) (l : List ℕ) → Below n l → ((i : ℕ) → i < n → times i l ≡ 1) → length l ≡ n
 length-of-once n l b h = sym (tally-all n l b) ∙ tally-ones n l h
 
--- ---- the audit's test for "each slot once": all queues run, different last slots, and the counts add up
+-- ---- the audit's test for each slot standing once: all queues run, different last slots, and the counts add up
 
 -- no list of ls that holds something has z as its last
 abbrev pub NoLast : ℕ → ℕ → List (List ℕ) → Type 0
