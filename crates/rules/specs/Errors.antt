@@ -4,32 +4,30 @@ use mathlib.Core.Logic.{_≢_}
 use mathlib.Core.Bool.{true, false, _&&_}
 use mathlib.Core.List.{List, _++_, map}
 use Prim.Native.Nat.{ℕ, _≤_, _<_}
+use lib.ListN.{length}
 use Rattle.psn.specs.Psn.{psns, distance, plus, next}
 use Rattle.refusal.specs.Choice.{Each}
-use Rattle.refusal.specs.Refusals.{firstGiven}
 use Rattle.rules.specs.declared.Packet.{Packet}
 use Rattle.rules.specs.declared.Line.{Line}
 use Rattle.rules.specs.declared.Standing.{Standing}
 use Rattle.rules.specs.declared.Post.{Post}
 use Rattle.rules.specs.declared.Answer.{Answer}
-use Rattle.rules.specs.declared.Answer.the-variants.{Done, Ended}
+use Rattle.rules.specs.declared.Answer.the-variants.{Done, Resending, Held, Ended}
 use Rattle.rules.specs.declared.Reply.the-variants.{Answered}
-use Rattle.rules.specs.Card.{Card}
-use Rattle.rules.specs.Account.{Side, U, N, updated}
+use Rattle.rules.specs.Card.{Card, completionBuffer}
+use Rattle.rules.specs.Account.{Side, ready, U, X, H, N, updated}
 use Rattle.rules.specs.Message.{isRead, unanswered}
-use Rattle.rules.specs.Ranges.{topBits}
 use Rattle.rules.specs.Posting.{posted}
-use Rattle.rules.specs.Outcome.{Outcome, leftWith, messagesOf}
+use Rattle.rules.specs.Outcome.{Outcome, leftWith, completions, messagesOf}
 use Rattle.rules.specs.Release.{release}
 use Rattle.rules.specs.Acknowledge.{inside, acknowledge}
 use Rattle.rules.specs.Response.{unfit, response}
 use Rattle.rules.specs.Timer.{timer}
 use Rattle.rules.specs.Emission.{emitted}
-use Rattle.rules.specs.Slots.{Tables, slotAt, queue, free, times, side, sides}
+use Rattle.rules.specs.Slots.{Tables, slotAt, queue, free, times, side}
 use Rattle.rules.specs.Audit.{Audit}
 use Rattle.rules.specs.Requests.{acknowledging, on}
-use Rattle.rules.specs.Refusals.{refusals}
-use Rattle.rules.specs.Calls.{call}
+use Rattle.rules.specs.Calls.{overlaid, call}
 
 -- ---- "An ACK of Sends that leaves R held."
 
@@ -48,21 +46,58 @@ pub record NoneUpTo (p r : ℕ) (t n : Tables) : Type 0 where
   pub none-held : Each (After (U (side t p)) r) (side n p .packets)
   pub slots-free : (i : ℕ) → 1 ≤ times i (queue t p) → UpTo (U (side t p)) r (slotAt (t .slots) i .packet) → times i (free n) ≡ 1
 
--- an ACK of R lets go of all packets up to R and of no other, answers "done" with the count of their messages, and U is past R
+-- an event for R that nothing is wrong with: the tables pass, the pair is ready, R and the lent buffer are in range, and the distance U to R is less than U to H
+pub record Fits (card : Card) (t : Tables) (p r : ℕ) (b : List ℕ) : Type 0 where
+  pub audited : Audit card t
+  pub pair : p < card .pairs
+  pub is-ready : side t p .standing .state ≡ ready
+  pub psn : r < psns
+  pub buffer : completionBuffer card ≤ length b
+  pub open-range : distance (U (side t p)) r < distance (U (side t p)) (H (side t p))
+
+-- every read's first unanswered PSN is after R, or at R or after
+abbrev pub ReadsAfter : ℕ → Side → Type 0
+ReadsAfter r s = Each (λ (q : Packet). isRead q ≡ true → distance (U s) r < distance (U s) (unanswered (s .standing) q)) (s .packets)
+
+abbrev pub ReadsFrom : ℕ → Side → Type 0
+ReadsFrom r s = Each (λ (q : Packet). isRead q ≡ true → distance (U s) r ≤ distance (U s) (unanswered (s .standing) q)) (s .packets)
+
+-- it lets go of all packets up to R and of no other, tells the tickets of their messages with status 0, answers "done", and U is past R
 pub record Acked (card : Card) (t : Tables) (p r y : ℕ) (b : List ℕ) : Type 0 where
   pub none-up-to : NoneUpTo p r t (call card (on p (acknowledging r y b)) t .next)
   pub done : call card (on p (acknowledging r y b)) t .said .reply ≡ Answered Done (messagesOf (leftWith 0 (none-up-to .gone))) 0
+  pub told : call card (on p (acknowledging r y b)) t .said .buffer ≡ overlaid (completions (leftWith 0 (none-up-to .gone))) b
   pub u-after : U (side (call card (on p (acknowledging r y b)) t .next) p) ≡ next r
 
--- of every ACK of R on audited tables that meets none of 1 to 9, is not dropped and not stopped
+-- of every ACK ("Syndrome top bits 000") of R with no read unanswered up to R
 abbrev pub AckFrees : Card → Type 0
-AckFrees card =
-    (t : Tables) → Audit card t → (p r y : ℕ) (b : List ℕ)
-    → firstGiven (refusals card (acknowledging r y b) p (sides t)) ≡ 0
-    → topBits y ≡ 0
-    → inside r (side t p) ≡ true
-    → release (next r) (side t p) .stopped ≡ false
-    → Acked card t p r y b
+AckFrees card = (t : Tables) (p r y : ℕ) (b : List ℕ) → Fits card t p r b → y < 32 → ReadsAfter r (side t p) → Acked card t p r y b
+
+-- ---- the same of a NAK or RNR, which must not let go of R
+
+-- a packet before R, and one from R on
+abbrev pub BeforeR : ℕ → ℕ → Packet → Type 0
+BeforeR u r q = distance u (q .psn) < distance u r
+
+abbrev pub FromR : ℕ → ℕ → Packet → Type 0
+FromR u r q = distance u r ≤ distance u (q .psn)
+
+-- it lets go of all packets before R and of no other, tells them with status 0, and all from R on is to be sent again
+pub record Nacked (card : Card) (t : Tables) (p r y : ℕ) (b : List ℕ) (answer : Answer) : Type 0 where
+  pub gone : List Packet
+  pub rest : side t p .packets ≡ gone ++ side (call card (on p (acknowledging r y b)) t .next) p .packets
+  pub all-before : Each (BeforeR (U (side t p)) r) gone
+  pub all-from : Each (FromR (U (side t p)) r) (side (call card (on p (acknowledging r y b)) t .next) p .packets)
+  pub said : call card (on p (acknowledging r y b)) t .said .reply ≡ Answered answer (messagesOf (leftWith 0 gone)) 0
+  pub told : call card (on p (acknowledging r y b)) t .said .buffer ≡ overlaid (completions (leftWith 0 gone)) b
+  pub u-after : U (side (call card (on p (acknowledging r y b)) t .next) p) ≡ r
+  pub x-after : X (side (call card (on p (acknowledging r y b)) t .next) p) ≡ r
+
+-- of every NAK of code 0 to 2 ("011": 96, 97, 98), and of every RNR ("001": 32 to 63) on a pair whose RNR retry is set to 7
+pub record NakKeeps (card : Card) : Type 0 where
+  pub nak : (t : Tables) (p r y : ℕ) (b : List ℕ) → Fits card t p r b → 96 ≤ y → y ≤ 98 → ReadsFrom r (side t p) → Nacked card t p r y b Resending
+  pub rnr : (t : Tables) (p r y : ℕ) (b : List ℕ) → Fits card t p r b → 32 ≤ y → y < 64 → side t p .standing .settings .rnr ≡ 7 → ReadsFrom r (side t p)
+      → Nacked card t p r y b Held
 
 -- ---- "PSNs compared as plain numbers, wrong at 16,777,215."
 

@@ -1,12 +1,11 @@
--- The first error of the trade, shut out: an ACK of R that is not stopped is "done", all packets up to R go and no other, and every slot they had is free.
+-- The first error of the trade, shut out: an ACK of R with no read unanswered up to R is "done", all packets up to R go and no other, and every slot they had is free.
 use mathlib.Core.Path.{_≡_, sym, ap, _∙_, subst}
-use mathlib.Core.Bool.{Bool, true, false, not, _&&_}
-use mathlib.Core.List.{List, [], _∷_, map, append-nil}
+use mathlib.Core.Bool.{true, false, not, _&&_}
+use mathlib.Core.List.{List, [], _∷_, map}
 use Prim.Native.Nat.{ℕ, _+_, _≤_, _<_}
 use native.Mathlib.Omega.{arith}
-use native.Mathlib.Nat.{add-zero, not-suc-le-zero}
 use lib.Dec.{eqb, ltb, leb}
-use borrow.Author.Tests.{ltb-true, ltb-false, lt-ltb, eqb-true, eqb-false, eq-eqb, not-false}
+use borrow.Author.Tests.{ltb-true, ltb-false, eqb-true, eqb-false, eq-eqb, not-false}
 use lib.ListN.{take, drop, take-append-drop}
 use Rattle.refusal.specs.Choice.{Each}
 use Rattle.refusal.proofs.Cases.{by-test, if-case}
@@ -14,47 +13,35 @@ use Rattle.refusal.proofs.Each.{each-so}
 use Rattle.rules.specs.declared.Packet.{Packet}
 use Rattle.rules.specs.declared.Standing.{Standing}
 use Rattle.rules.specs.declared.Answer.the-variants.{Done}
-use Rattle.psn.specs.Psn.{distance, plus, next, before}
+use Rattle.psn.specs.Psn.{distance, plus, next}
 use Rattle.rules.specs.declared.Reply.the-variants.{Answered}
 use Rattle.rules.specs.Card.{Card}
-use Rattle.rules.specs.Account.{Side, U, H, N, ahead}
-use Rattle.rules.specs.Message.{span, unanswered}
+use Rattle.rules.specs.Account.{Side, U, H}
+use Rattle.rules.specs.Message.{isRead, unanswered}
 use Rattle.rules.specs.Ranges.{topBits, lowBits}
-use Rattle.rules.specs.Outcome.{Outcome, Departure, leftWith, messagesOf}
-use Rattle.rules.specs.Release.{release, passedBy}
+use Rattle.rules.specs.Outcome.{Outcome}
+use Rattle.rules.specs.Release.{release}
 use Rattle.rules.specs.Acknowledge.{inside, acknowledge}
 use Rattle.rules.specs.Slots.{Tables, slotAt, free, queue, times, sideOf, side, sides, freed}
-use Rattle.rules.specs.Order.{_or_, left, right}
 use Rattle.rules.specs.Audit.{Whole, Audit}
 use Rattle.rules.specs.Calls.{call}
-use Rattle.rules.specs.Errors.{After, UpTo, NoneUpTo, Acked, AckFrees}
+use Rattle.rules.specs.Errors.{After, UpTo, NoneUpTo, ReadsAfter, ReadsFrom, BeforeR, FromR, Acked, AckFrees}
 use Rattle.rules.specs.Passes.Tables.{passes}
 use Rattle.rules.specs.Refusals.{sideAt, refusals}
 use Rattle.rules.specs.Requests.{acknowledging, on}
-use Rattle.rules.proofs.Sides.InOrder.{RunsLow, InOrder, audited-order}
-use Rattle.rules.proofs.Passes.Decided.{sound, complete}
+use Rattle.rules.proofs.Sides.InOrder.{InOrder, audited-order}
+use Rattle.rules.proofs.Passes.Decided.{sound}
 use Rattle.refusal.specs.Refusals.{firstGiven}
-use Rattle.psn.proofs.Laws.{distance-step, distance-same}
+use Rattle.psn.proofs.Laws.{distance-step}
 use Rattle.rules.proofs.Slots.Links.{times-append, times-parts, times-other}
 use Rattle.rules.proofs.Slots.Lists.{map-drop}
 use Rattle.rules.proofs.Slots.Freed.{freed-free, freed-side}
 use Rattle.rules.proofs.Slots.Queues.{pair-and-free}
-use Rattle.rules.proofs.Sides.Order.{all-before, whole-or-part, Part}
-use Rattle.rules.proofs.Sides.Response.{Clear, clear}
 use Rattle.rules.proofs.Calls.Accepted.{Accepted, accepted, is-ready}
 use Rattle.rules.proofs.Calls.Moves.{side-at}
+use Rattle.rules.proofs.Errors.Before.{unstopped, u-is, gone-before, left-from, given-none, within, replied, told, next-tables}
 
 -- ---- on the account
-
-runs-after : (size : Packet → ℕ) (u r o : ℕ) (ps : List Packet) (n : ℕ) → RunsLow size u o ps n → distance u r < o → Each (After u r) ps
-runs-after size u r o [] n h l = tt
-runs-after size u r o (p ∷ ps) n h l = (omega (arith, h .1), runs-after size u r (o + size p) ps n (h .2) (omega arith))
-
--- those ahead of the first that passes a test do not pass it
-pub ahead-fails : (test : Packet → Bool) (ps : List Packet) → Each (λ q. test q ≡ false) (take (ahead test ps) ps)
-ahead-fails test [] = tt
-ahead-fails test (p ∷ ps) =
-    if-case (λ (k : ℕ). Each (λ q. test q ≡ false) (take k (p ∷ ps))) (test p) (λ _. tt) (λ e. (e, ahead-fails test ps))
 
 -- what an ACK of R that is not stopped comes to
 abbrev cleared : ℕ → Side → Outcome
@@ -91,49 +78,26 @@ clean r y s =
 pub next-is : (s : Side) → InOrder s → (r : ℕ) → inside r s ≡ true → distance (U s) (plus r 1) ≡ distance (U s) r + 1
 next-is s o r h = distance-step (U s) r 1 (omega (arith, ltb-true (distance (U s) r) (distance (U s) (H s)) h, o .u-h-n, o .near))
 
--- nothing goes but what is up to R
-gone-up-to : (s : Side) → InOrder s → (r : ℕ) → inside r s ≡ true → release (plus r 1) s .stopped ≡ false
-    → Each (UpTo (U s) r) (take (release (plus r 1) s .released) (s .packets))
-gone-up-to s o r h e =
-    rw (clear (plus r 1) s e .released)
-    (each-so (λ q. not (before (U s) (q .psn) (plus r 1)) ≡ false) (UpTo (U s) r)
-    (λ q z. omega (arith, next-is s o r h, ltb-true (distance (U s) (q .psn)) (distance (U s) (plus r 1)) (not-false (before (U s) (q .psn) (plus r 1)) z)))
-    (take (ahead (λ q. not (before (U s) (q .psn) (plus r 1))) (s .packets)) (s .packets))
-    (ahead-fails (λ q. not (before (U s) (q .psn) (plus r 1))) (s .packets)))
+-- so what is after R is at R + 1 or after it
+reads-from-next : (s : Side) → InOrder s → (r : ℕ) → inside r s ≡ true → ReadsAfter r s → ReadsFrom (plus r 1) s
+reads-from-next s o r h =
+    each-so (λ (q : Packet). isRead q ≡ true → distance (U s) r < distance (U s) (unanswered (s .standing) q))
+    (λ (q : Packet). isRead q ≡ true → distance (U s) (plus r 1) ≤ distance (U s) (unanswered (s .standing) q))
+    (λ q f e. omega (arith, f e, next-is s o r h)) (s .packets)
 
--- U is past R
-past : (r : ℕ) (s : Side) → release (plus r 1) s .stopped ≡ false → release (plus r 1) s .standing .line .u ≡ plus r 1
-past r s e = ap (λ (t : Standing). t .line .u) (clear (plus r 1) s e .standing)
+module _ (s : Side) (o : InOrder s) (r : ℕ) (h : inside r s ≡ true) (e : release (plus r 1) s .stopped ≡ false) where
+  -- nothing goes but what is up to R
+  gone-up-to : Each (UpTo (U s) r) (take (release (plus r 1) s .released) (s .packets))
+  gone-up-to =
+      each-so (BeforeR (U s) (plus r 1)) (UpTo (U s) r) (λ q l. omega (arith, next-is s o r h))
+      (take (release (plus r 1) s .released) (s .packets)) (gone-before (plus r 1) s e)
 
--- nothing is left at or before R
-left-after : (s : Side) → InOrder s → (r : ℕ) → inside r s ≡ true → release (plus r 1) s .stopped ≡ false
-    → Each (After (U s) r) (drop (release (plus r 1) s .released) (s .packets))
-left-after s o r h e = go (whole-or-part (s .standing .settings) (U s) (N s) (o .u-low) (s .packets) (o .starts))
-  where
-    c : Clear (plus r 1) s
-    c = clear (plus r 1) s e
-
-    lt : distance (U s) r < distance (U s) (H s)
-    lt = ltb-true (distance (U s) r) (distance (U s) (H s)) h
-
-    next : distance (U s) (plus r 1) ≡ distance (U s) r + 1
-    next = next-is s o r h
-
-    go : RunsLow (span (s .standing .settings)) (U s) 0 (s .packets) (N s) or Part (s .standing .settings) (U s) (s .packets)
-        → Each (After (U s) r) (drop (release (plus r 1) s .released) (s .packets))
-    go (left run) =
-        rw (c .released)
-        (runs-after (span (s .standing .settings)) (U s) r (distance (U s) (plus r 1))
-        (drop (ahead (λ p. not (before (U s) (p .psn) (plus r 1))) (s .packets)) (s .packets)) (N s)
-        (all-before (s .standing) (o .u-low) (plus r 1) 0 (s .packets) (N s) run (omega arith) (omega (arith, next, lt, o .u-h-n)) (o .near) (c .none))
-        (omega (arith, next)))
-    go (right q) = absurd (not-suc-le-zero (rw (q .is) at (rw first at (c .none))))
-      where
-        at-u : unanswered (s .standing) (q .head) ≡ U s
-        at-u = rw (lt-ltb _ _ (q .inside))
-
-        first : ahead (passedBy (plus r 1) (s .standing)) (s .packets) ≡ 0
-        first = rw (q .is) (rw (at-u, distance-same, q .read, lt-ltb 0 (distance (U s) (plus r 1)) (omega (arith, next))))
+  -- nothing is left at or before R
+  left-after : Each (After (U s) r) (drop (release (plus r 1) s .released) (s .packets))
+  left-after =
+      each-so (FromR (U s) (plus r 1)) (After (U s) r) (λ q l. omega (arith, next-is s o r h))
+      (drop (release (plus r 1) s .released) (s .packets))
+      (left-from (plus r 1) s e o (omega (arith, next-is s o r h, ltb-true (distance (U s) r) (distance (U s) (H s)) h)))
 
 -- ---- on the tables
 
@@ -150,7 +114,7 @@ side-drop t p k = sym (map-drop (λ j. slotAt (t .slots) j .packet) k (queue t p
 
 -- a release of tables that are whole, whose pair p is in order
 module _ (card : Card) (t : Tables) (w : Whole card t) (p : ℕ) (low : p < card .pairs) (o : InOrder (side t p))
-    (r : ℕ) (within : inside r (side t p) ≡ true) (e : release (plus r 1) (side t p) .stopped ≡ false) where
+    (r : ℕ) (in-range : inside r (side t p) ≡ true) (e : release (plus r 1) (side t p) .stopped ≡ false) where
   abbrev count : ℕ
   count = release (plus r 1) (side t p) .released
 
@@ -168,7 +132,7 @@ module _ (card : Card) (t : Tables) (w : Whole card t) (p : ℕ) (low : p < card
       absurd (omega (
         arith,
         each-in (After (U (side t p)) r) (λ j. slotAt (t .slots) j .packet) i (drop count (queue t p))
-            (subst (Each (After (U (side t p)) r)) (side-drop t p count) (left-after (side t p) o r within e))
+            (subst (Each (After (U (side t p)) r)) (side-drop t p count) (left-after (side t p) o r in-range e))
             (ltb-true 0 (times i (drop count (queue t p))) z),
       )))
       (λ z. omega (arith, ltb-false))
@@ -184,48 +148,51 @@ module _ (card : Card) (t : Tables) (w : Whole card t) (p : ℕ) (low : p < card
       record {
         gone = take count (side t p .packets);
         rest = rw (is, new-side) (sym (take-append-drop count (side t p .packets)));
-        all-up-to = gone-up-to (side t p) o r within e;
-        none-held = rw (is, new-side) (left-after (side t p) o r within e);
+        all-up-to = gone-up-to (side t p) o r in-range e;
+        none-held = rw (is, new-side) (left-after (side t p) o r in-range e);
         slots-free = λ i m l. ap (λ (x : Tables). times i (free x)) is ∙ slots-free i m l;
       }
 
 -- ---- the call
 
-module _ (card : Card) (t : Tables) (a : Audit card t) (p r y : ℕ) (b : List ℕ)
-    (given : firstGiven (refusals card (acknowledging r y b) p (sides t)) ≡ 0) (top : topBits y ≡ 0)
-    (within : inside r (side t p) ≡ true) (e : release (next r) (side t p) .stopped ≡ false) where
-  said : call card (on p (acknowledging r y b)) t .said .reply ≡ Answered Done (messagesOf (leftWith 0 (take (release (next r) (side t p) .released) (side t p .packets)))) 0
-  unfolding call
-  said =
-      rw (complete card t a, given, side-at t p, cleared-is r y (side t p) top within e)
-      (ap (λ (ds : List Departure). Answered Done (messagesOf ds) 0) (append-nil (leftWith 0 (take (release (next r) (side t p) .released) (side t p .packets)))))
-
-  next-tables : call card (on p (acknowledging r y b)) t .next
-      ≡ freed (card .none) p (release (next r) (side t p) .standing) (release (next r) (side t p) .released) t
-  unfolding call
-  next-tables = rw (complete card t a, given, side-at t p, cleared-is r y (side t p) top within e, add-zero (release (next r) (side t p) .released))
-
--- an ACK of R that meets none of 1 to 9, is not dropped and not stopped: "done", all packets up to R gone and no other, their slots free, U past R
-pub acked : (card : Card) → AckFrees card
+-- one that meets none of 1 to 9, is not dropped and not stopped
+acked-clean : (card : Card) (t : Tables) → Audit card t → (p r y : ℕ) (b : List ℕ)
+    → firstGiven (refusals card (acknowledging r y b) p (sides t)) ≡ 0 → Clean r y (side t p) → Acked card t p r y b
 unfolding none-up-to
-acked card t a p r y b given top within e =
+acked-clean card t a p r y b given c =
     record {
-      none-up-to = none-up-to card t (a .whole) p (h .pair) order r within e (call card (on p (acknowledging r y b)) t .next) after;
-      done = said card t a p r y b given top within e;
-      u-after =
-          rw (after, freed-side card t (a .whole) p (h .pair) (release (next r) (side t p) .standing) (release (next r) (side t p) .released))
-          (past r (side t p) e);
+      none-up-to = none-up-to card t (a .whole) p (h .pair) order r (c .within) (c .clear) (call card (on p (acknowledging r y b)) t .next) after;
+      done = replied card t p r y b a given Done k st is;
+      told = told card t p r y b a given Done k st is;
+      u-after = rw (after, freed-side card t (a .whole) p (h .pair) st k) (u-is (next r) (side t p) (c .clear));
     }
   where
+    k : ℕ
+    k = release (next r) (side t p) .released
+
+    st : Standing
+    st = release (next r) (side t p) .standing
+
+    is : acknowledge r y (side t p) ≡ cleared r (side t p)
+    is = cleared-is r y (side t p) (c .top) (c .within) (c .clear)
+
     h : Accepted card (acknowledging r y b) p (sides t)
     h = accepted card (acknowledging r y b) p (sides t) (eq-eqb _ 0 given)
 
     order : InOrder (side t p)
     order = audited-order a p (h .pair) (rw (side-at t p) at (is-ready {x = sideAt (sides t) p .standing .state} (h .state)))
 
-    after : call card (on p (acknowledging r y b)) t .next
-        ≡ freed (card .none) p (release (next r) (side t p) .standing) (release (next r) (side t p) .released) t
-    after = next-tables card t a p r y b given top within e
+    after : call card (on p (acknowledging r y b)) t .next ≡ freed (card .none) p st k t
+    after = next-tables card t p r y b a given Done k st is
+
+-- an ACK of R with no read unanswered up to R: "done", all packets up to R gone and no other, their slots free, U past R
+pub acked : (card : Card) → AckFrees card
+acked card t p r y b f low reads =
+    let top : topBits y ≡ 0 = omega arith in
+    let h = within card t p r y b f in
+    let order = audited-order (f .audited) p (f .pair) (f .is-ready) in
+    acked-clean card t (f .audited) p r y b (given-none card t p r y b f (rw top))
+    (record { top = top; within = h; clear = unstopped (plus r 1) (side t p) (reads-from-next (side t p) order r h reads) })
 
 -- and the other way: whatever is answered "done" was such an ACK, of audited tables
 pub acked-when-done : (card : Card) (t : Tables) (p r y : ℕ) (b : List ℕ) (messages place : ℕ)
@@ -235,7 +202,7 @@ acked-when-done card t p r y b messages place =
     by-test (passes card t)
     (λ e. rw e (by-test (eqb (firstGiven (refusals card (acknowledging r y b) p (sides t))) 0)
     (λ q. rw q (λ d.
-    let c = rw (side-at t p) at (clean r y (sideAt (sides t) p) (cc)) in
-    acked card t (sound card t e) p r y b (eqb-true (firstGiven (refusals card (acknowledging r y b) p (sides t))) 0 q) (c .top) (c .within) (c .clear)))
+    acked-clean card t (sound card t e) p r y b (eqb-true (firstGiven (refusals card (acknowledging r y b) p (sides t))) 0 q)
+    (rw (side-at t p) at (clean r y (sideAt (sides t) p) (cc)))))
     (λ q. rw q (λ d. let z : _≡_ {A = ℕ} 0 1 = cc in absurd (omega arith)))))
     (λ e. rw e (λ d. let z : _≡_ {A = ℕ} 0 1 = cc in absurd (omega arith)))

@@ -45,7 +45,8 @@ use Rattle.rules.proofs.Sides.Order.{runs-end, unanswered-is, all-befor
 use Rattle.rules.proofs.Sides.Scan.{stays, released-is}
 use Rattle.rules.proofs.Calls.Accepted.{accepted, is-ready}
 use Rattle.rules.proofs.Calls.Moves.{side-at}
-use Rattle.rules.proofs.Errors.Acked.{ahead-fails, next-is, each-in, side-drop}
+use Rattle.rules.proofs.Errors.Before.{ahead-fails}
+use Rattle.rules.proofs.Errors.Acked.{next-is, each-in, side-drop}
 
 -- ---- no read is released, stopped or not
 
