@@ -11,4 +11,5 @@ pub mod Buffers
 pub mod Completions
 pub mod Tidy
 pub mod Room
+pub mod Emits
 pub mod Ledger

@@ -29,6 +29,7 @@ use Rattle.rules.proofs.Calls.Refused.{unchanged, unchanged-start, unau
 use Rattle.rules.proofs.Calls.Buffers.{call-buffer}
 use Rattle.rules.proofs.Calls.Tidy.{tidy}
 use Rattle.rules.proofs.Calls.Room.{room}
+use Rattle.rules.proofs.Calls.Emits.{emits}
 use Rattle.rules.proofs.Calls.Ledger.{Balanced, balanced, blank-balanced}
 
 -- an answer with a number is a refusal with that number
@@ -95,7 +96,7 @@ module _ (card : Card) where
       }
 
   pub demand2 : Demand2 card
-  demand2 = record { exact = exact; tidy = λ p q t a. tidy card t a p q; starts = starts }
+  demand2 = record { exact = exact; tidy = λ p q t a. tidy card t a p q; starts = starts; emits = emits card }
 
   -- ---- demand 3
 

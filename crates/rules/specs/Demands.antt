@@ -2,21 +2,25 @@
 use mathlib.Core.Path.{_≡_}
 use mathlib.Core.Logic.{_↔_, _≢_}
 use mathlib.Core.Bool.{false, _&&_}
-use mathlib.Core.List.{List, [], _++_, map}
-use Prim.Native.Nat.{ℕ, _+_, _≤_, _<_}
+use mathlib.Core.List.{List, [], _∷_, _++_, map}
+use Prim.Native.Nat.{ℕ, _+_, _*_, _≤_, _<_, min}
+use lib.Dec.{ltb}
 use lib.ListN.{length, take, drop}
-use Rattle.psn.specs.Psn.{half, distance}
+use Rattle.psn.specs.Psn.{half, distance, before}
+use Rattle.refusal.specs.Choice.{if_then_else_}
 use Rattle.refusal.specs.Refusals.{firstGiven}
+use Rattle.rules.specs.declared.Packet.{Packet}
 use Rattle.rules.specs.declared.Post.{Post}
-use Rattle.rules.specs.declared.Reply.the-variants.{First}
+use Rattle.rules.specs.declared.Reply.the-variants.{First, Count}
 use Rattle.rules.specs.Card.{Card}
-use Rattle.rules.specs.Account.{ready, U, N}
+use Rattle.rules.specs.Account.{Side, ready, U, X, H, N, updated, further}
 use Rattle.rules.specs.Message.{slotsFor, psnsFor}
-use Rattle.rules.specs.Ranges.{badPost}
+use Rattle.rules.specs.Ranges.{badPost, largestBudget}
+use Rattle.rules.specs.Emission.{ends, recordBytes, emissions}
 use Rattle.rules.specs.Outcome.{Departure, completions}
 use Rattle.rules.specs.Slots.{Tables, slotAt, queue, queues, free, times, concat, side, sides, fresh}
 use Rattle.rules.specs.Audit.{Audit}
-use Rattle.rules.specs.Requests.{Request, posting, Call, starting, on, lent, numberOf}
+use Rattle.rules.specs.Requests.{Request, posting, emitting, Call, starting, on, lent, numberOf}
 use Rattle.rules.specs.Refusals.{sideAt, anyRead, refusals}
 use Rattle.rules.specs.Calls.{Move, leaves, joins, effect, started, refuse, account, call}
 use Rattle.rules.specs.History.{ledger, accounted, called}
@@ -39,6 +43,14 @@ freeAfter (joins qs) free held = drop (length qs) free
 abbrev pub storedIn : Move → List ℕ → List ℕ
 storedIn (leaves released flushed) free = []
 storedIn (joins qs) free = take (length qs) free
+
+-- "the records ending after X", each tested by itself
+abbrev pub endsAfterX : Side → List Packet → List Packet
+endsAfterX s [] = []
+endsAfterX s (q ∷ qs) = if before (U s) (X s) (ends (s .standing .settings) q) then q ∷ endsAfterX s qs else endsAfterX s qs
+
+abbrev pub endingAfter : Side → List Packet
+endingAfter s = endsAfterX s (s .packets)
 
 module _ (card : Card) where
   -- ---- demand 1: "Every call takes any arguments, any frame bytes and any contents of the tables lent to it, and ends. A refusal gives its number and changes
@@ -79,10 +91,47 @@ module _ (card : Card) where
     pub right : length (t .pairs) ≡ card .pairs → length (t .slots) ≡ card .slots → call card starting t ≡ started (fresh card)
     pub wrong : (length (t .pairs) ≡ card .pairs → length (t .slots) ≡ card .slots → ⊥) → call card starting t ≡ refuse 15 [] t
 
+  -- an emission that nothing is wrong with, at tables t
+  pub record CanEmit (p budget : ℕ) (b : List ℕ) (t : Tables) : Type 0 where
+    pub audited : Audit card t
+    pub pair : p < card .pairs
+    pub is-ready : side t p .standing .state ≡ ready
+    pub some : 1 ≤ budget
+    pub most : budget ≤ largestBudget
+    pub long : recordBytes * budget ≤ length b
+
+  -- "the number of packets written equals the smaller of the budget and the records ending after X; a held pair writes 0. X moves past them, H to the further of H
+  -- and X. Other buffer bytes stay."
+  pub record Emits (p budget : ℕ) (b : List ℕ) (t : Tables) : Type 0 where
+    pub went : ℕ
+    pub number : went ≡ (if ltb 0 (side t p .standing .clock .hold) then 0 else min budget (length (endingAfter (side t p))))
+    pub said : call card (on p (emitting budget b)) t .said .reply ≡ Count went
+    pub written : call card (on p (emitting budget b)) t .said .buffer
+        ≡ emissions (side t p .standing) (take went (endingAfter (side t p))) ++ drop (recordBytes * went) b
+    -- what waits then is what waited, less those that went
+    pub left : endingAfter (side (call card (on p (emitting budget b)) t .next) p) ≡ drop went (endingAfter (side t p))
+    pub h-after : H (side (call card (on p (emitting budget b)) t .next) p)
+        ≡ further (U (side t p)) (H (side t p)) (X (side (call card (on p (emitting budget b)) t .next) p))
+    -- and nothing but X and H moves
+    pub kept : side (call card (on p (emitting budget b)) t .next) p
+        ≡ record {
+          standing =
+              updated
+              (record {
+                u = U (side t p);
+                x = X (side (call card (on p (emitting budget b)) t .next) p);
+                h = H (side (call card (on p (emitting budget b)) t .next) p);
+                n = N (side t p);
+              })
+              (side t p .standing .clock) (side t p .standing);
+          packets = side t p .packets;
+        }
+
   pub record Demand2 : Type 0 where
     pub exact : (c : Call) (t : Tables) → Audit card t → Exact c t
     pub tidy : (p : ℕ) (q : Request) (t : Tables) → Audit card t → firstGiven (refusals card q p (sides t)) ≡ 0 → Tidy p q t
     pub starts : (t : Tables) → Starts t
+    pub emits : (p budget : ℕ) (b : List ℕ) (t : Tables) → CanEmit p budget b t → Emits p budget b t
 
   -- ---- demand 3: "After any sequence of calls from a fresh start"
 

@@ -50,7 +50,7 @@ length-emission t p =
     let q = sent t p in
     simp (length-append, length-bytes, bytes-whole (headerOf (t .settings) q)) refl
 
-length-emissions : (t : Standing) (ps : List Packet) → length (emissions t ps) ≡ recordBytes * length ps
+pub length-emissions : (t : Standing) (ps : List Packet) → length (emissions t ps) ≡ recordBytes * length ps
 length-emissions t [] = refl
 length-emissions t (p ∷ ps) = omega (arith, length-append (emission t p) (emissions t ps), length-emission t p, length-emissions t ps)
 

@@ -31,7 +31,7 @@ module _ (s : Settings) (u : ℕ) (u-low : u < psns) (n : ℕ) (n-low : n < psns
     pub within : distance u y ≤ distance u n
     pub at : (y ≡ n) or Start y ps
 
-  stop : (k x : ℕ) → x < psns → (o : ℕ) (ps : List Packet) → distance u x ≡ o → RunsLow (span s) u o ps n → Stop o ps (endsAt s x (take k ps))
+  pub stop : (k x : ℕ) → x < psns → (o : ℕ) (ps : List Packet) → distance u x ≡ o → RunsLow (span s) u o ps n → Stop o ps (endsAt s x (take k ps))
   stop zero x low o ps e r =
       record { low = low; past = omega arith; within = omega (arith, runs-end (span s) u u-low o ps n r); at = stands-at x low o ps e r }
   stop (suc k) x low o [] e r =
