@@ -1,0 +1,12 @@
+pub mod Seed33
+pub mod Seed295
+pub mod Seed490
+pub mod Seed625
+pub mod Seed779
+pub mod Seed1621
+pub mod Seed2034
+pub mod Seed2139
+pub mod Seed2412
+pub mod Seed2634
+pub mod Seed2688
+pub mod Seed2787

@@ -1,0 +1,1 @@
+// The rules agree with the independent second program: its own random traces, and its answers, as theorems.
