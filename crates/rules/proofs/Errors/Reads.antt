@@ -33,6 +33,7 @@ use Rattle.rules.specs.Errors.{ReadsStay, AckKeepsReads}
 use Rattle.rules.specs.Passes.Tables.{passes}
 use Rattle.rules.specs.Refusals.{sideAt, refusals}
 use Rattle.rules.specs.Requests.{acknowledging, on}
+use Rattle.rules.proofs.Slots.Lists.{map-take}
 use Rattle.rules.proofs.Sides.After.{leaving}
 use Rattle.rules.proofs.Sides.InOrder.{RunsLow, InOrder, audited-order}
 use Rattle.rules.proofs.Passes.Decided.{sound}
@@ -177,11 +178,6 @@ gentle r y s o low =
 side-take : (t : Tables) (p k : ℕ) → take k (side t p .packets) ≡ map (λ j. slotAt (t .slots) j .packet) (take k (queue t p))
 unfolding side sideOf
 side-take t p k = map-take (λ j. slotAt (t .slots) j .packet) k (queue t p)
-  where
-    map-take : (f : ℕ → Packet) (k : ℕ) (l : List ℕ) → take k (map f l) ≡ map f (take k l)
-    map-take f zero l = refl
-    map-take f (suc k) [] = refl
-    map-take f (suc k) (x ∷ l) = ap (λ (m : List Packet). f x ∷ m) (map-take f k l)
 
 module _ (card : Card) (t : Tables) (w : Whole card t) (p : ℕ) (low : p < card .pairs) (o : Outcome) (g : Gentle (side t p) o) where
   -- a slot that holds a read is not among those that leave

@@ -30,13 +30,12 @@ use Rattle.rules.specs.Timer.{timeoutOf, timer}
 use Rattle.rules.specs.Slots.{side}
 use Rattle.rules.specs.Audit.{Bounded}
 use Rattle.rules.specs.Errors.{turnedPacket, turnedStanding, turned, turnedOutcome, TurnsRound, AnyTurn}
-use Rattle.rules.proofs.Slots.Lists.{map-drop}
+use Rattle.rules.proofs.Slots.Lists.{map-drop, map-take}
 use Rattle.rules.proofs.Sides.Order.{ahead-most}
 use Rattle.rules.proofs.Errors.Turning.{
   if-turned,
   ahead-map,
   getD-map,
-  map-take,
   distance-turned,
   plus-swap,
   eqb-turned,

@@ -42,11 +42,6 @@ getD-map f c d [] i h = absurd (not-suc-le-zero h)
 getD-map f c d (p ∷ ps) zero h = refl
 getD-map f c d (p ∷ ps) (suc i) h = getD-map f c d ps i (le-of-suc-le-suc h)
 
-pub map-take : (f : Packet → Packet) (n : ℕ) (ps : List Packet) → take n (map f ps) ≡ map f (take n ps)
-map-take f zero ps = refl
-map-take f (suc n) [] = refl
-map-take f (suc n) (p ∷ ps) = ap (λ (l : List Packet). f p ∷ l) (map-take f n ps)
-
 module _ (k : ℕ) where
   -- ---- packet numbers
 

@@ -1,12 +1,12 @@
 -- Lists of slot numbers, and how often a number stands in them.
-use mathlib.Core.Path.{_≡_, refl}
+use mathlib.Core.Path.{_≡_, refl, ap}
 use mathlib.Core.Logic.{_≢_}
 use mathlib.Core.List.{List, [], _∷_, map}
 use Prim.Native.Nat.{ℕ, zero, suc, _+_, _-_, _≤_, _<_, suc-le-suc}
 use native.Mathlib.Omega.{arith}
 use native.Mathlib.Nat.{le-of-suc-le-suc}
 use borrow.Author.Tests.{ne-eqb}
-use lib.ListN.{length, getD, set, drop}
+use lib.ListN.{length, getD, set, take, drop}
 use lib.Seq.{getD-set-other}
 use Rattle.rules.specs.Slots.{times, concat, Below}
 use Rattle.rules.proofs.Slots.Links.{times-append, times-tail, times-same, below-append}
@@ -40,6 +40,11 @@ pub map-drop {ℓ κ} : {A : Type ℓ} {B : Type κ} (f : A → B) (k : ℕ) (l 
 map-drop f zero l = refl
 map-drop f (suc k) [] = refl
 map-drop f (suc k) (x ∷ l) = map-drop f k l
+
+pub map-take {ℓ κ} : {A : Type ℓ} {B : Type κ} (f : A → B) (k : ℕ) (l : List A) → take k (map f l) ≡ map f (take k l)
+map-take f zero l = refl
+map-take f (suc k) [] = refl
+map-take f (suc k) (x ∷ l) = λ i. f x ∷ map-take f k l i
 
 -- two functions that agree on a list's members
 pub map-on : {B : Type 0} (f g : ℕ → B) (l : List ℕ) → ((i : ℕ) → 1 ≤ times i l → f i ≡ g i) → map f l ≡ map g l
