@@ -16,7 +16,7 @@ use Rattle.rules.specs.Outcome.{Departure}
 use Rattle.rules.specs.Slots.{Tables, queue, side, sides, fresh}
 use Rattle.rules.specs.Audit.{Audit}
 use Rattle.rules.specs.Calls.{allClosed, call}
-use Rattle.rules.specs.Demands.{Harmless, Audits, Demand1, Exact, Starts, Demand2, Demand3}
+use Rattle.rules.specs.Demands.{Harmless, Audits, Demand1, Starts, Demand2, Demand3}
 use Rattle.rules.specs.History.{blank, ledger, accounted, called}
 use Rattle.rules.specs.Passes.Tables.{passes}
 use Rattle.rules.specs.Refusals.{sideAt}
@@ -76,11 +76,6 @@ module _ (card : Card) where
 
   -- ---- demand 2
 
-  pub exact : (c : Call) (t : Tables) → Audit card t → Exact card c t
-  exact c t a =
-      let r = agrees card c t a in
-      record { said = r .said; sides-after = r .same; audited = r .audit }
-
   pub starts : (t : Tables) → Starts card t
   unfolding call
   starts t =
@@ -96,7 +91,7 @@ module _ (card : Card) where
       }
 
   pub demand2 : Demand2 card
-  demand2 = record { exact = exact; tidy = λ p q t a. tidy card t a p q; starts = starts; emits = emits card }
+  demand2 = record { exact = agrees card; tidy = λ p q t a. tidy card t a p q; starts = starts; emits = emits card }
 
   -- ---- demand 3
 

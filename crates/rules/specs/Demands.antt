@@ -10,6 +10,7 @@ use Rattle.psn.specs.Psn.{half, distance, before}
 use Rattle.refusal.specs.Choice.{if_then_else_}
 use Rattle.refusal.specs.Refusals.{firstGiven}
 use Rattle.rules.specs.declared.Packet.{Packet}
+use Rattle.rules.specs.declared.Line.{Line}
 use Rattle.rules.specs.declared.Post.{Post}
 use Rattle.rules.specs.declared.Reply.the-variants.{First, Count}
 use Rattle.rules.specs.Card.{Card}
@@ -22,7 +23,7 @@ use Rattle.rules.specs.Slots.{Tables, slotAt, queue, queues, free, times
 use Rattle.rules.specs.Audit.{Audit}
 use Rattle.rules.specs.Requests.{Request, posting, emitting, Call, starting, on, lent, numberOf}
 use Rattle.rules.specs.Refusals.{sideAt, anyRead, refusals}
-use Rattle.rules.specs.Calls.{Move, leaves, joins, effect, started, refuse, account, call}
+use Rattle.rules.specs.Calls.{Move, leaves, joins, effect, Step, started, refuse, account, call}
 use Rattle.rules.specs.History.{ledger, accounted, called}
 
 -- the buffer lent with a call
@@ -52,6 +53,10 @@ endsAfterX s (q ∷ qs) = if before (U s) (X s) (ends (s .standing .settings) q)
 abbrev pub endingAfter : Side → List Packet
 endingAfter s = endsAfterX s (s .packets)
 
+-- the same pair with this line
+abbrev pub withLine : Line → Side → Side
+withLine l s = record { standing = updated l (s .standing .clock) (s .standing); packets = s .packets }
+
 module _ (card : Card) where
   -- ---- demand 1: "Every call takes any arguments, any frame bytes and any contents of the tables lent to it, and ends. A refusal gives its number and changes
   -- no table and no lent buffer." That it ends is that `call` is a function of all of them
@@ -73,18 +78,17 @@ module _ (card : Card) where
   -- tables that passes its audit"
 
   -- it says what the account says, does to the pairs' sides what the account does, and leaves tables that pass
-  pub record Exact (c : Call) (t : Tables) : Type 0 where
-    pub said : call card c t .said ≡ account card c (sides t) .said
-    pub sides-after : sides (call card c t .next) ≡ account card c (sides t) .next
-    pub audited : Audit card (call card c t .next)
+  pub record Agree (c : Step Tables) (a : Step (List Side)) : Type 0 where
+    pub said : c .said ≡ a .said
+    pub sides-after : sides (c .next) ≡ a .next
+    pub audited : Audit card (c .next)
 
-  -- where it is not refused, slots move as 01 says, no other pair's do, and "A freed slot keeps all but its link."
-  pub record Tidy (p : ℕ) (q : Request) (t : Tables) : Type 0 where
-    pub queue-after : queue (call card (on p q) t .next) p ≡ queueAfter (effect q (side t p) .move) (free t) (queue t p)
-    pub free-after : free (call card (on p q) t .next) ≡ freeAfter (effect q (side t p) .move) (free t) (queue t p)
-    pub others-after : (r : ℕ) → r < card .pairs → r ≢ p → queue (call card (on p q) t .next) r ≡ queue t r
-    pub kept : (i : ℕ) → times i (storedIn (effect q (side t p) .move) (free t)) ≡ 0
-        → slotAt (call card (on p q) t .next .slots) i .packet ≡ slotAt (t .slots) i .packet
+  -- where it is not refused and tables t become n by the move m of pair p, slots move as 01 says, no other pair's do, and "A freed slot keeps all but its link."
+  pub record Tidy (p : ℕ) (m : Move) (t n : Tables) : Type 0 where
+    pub queue-after : queue n p ≡ queueAfter m (free t) (queue t p)
+    pub free-after : free n ≡ freeAfter m (free t) (queue t p)
+    pub others-after : (r : ℕ) → r < card .pairs → r ≢ p → queue n r ≡ queue t r
+    pub kept : (i : ℕ) → times i (storedIn m (free t)) ≡ 0 → slotAt (n .slots) i .packet ≡ slotAt (t .slots) i .packet
 
   -- "a fresh start tests only the two lengths (15)": on any tables whatever
   pub record Starts (t : Tables) : Type 0 where
@@ -101,37 +105,24 @@ module _ (card : Card) where
     pub long : recordBytes * budget ≤ length b
 
   -- "the number of packets written equals the smaller of the budget and the records ending after X; a held pair writes 0. X moves past them, H to the further of H
-  -- and X. Other buffer bytes stay."
-  pub record Emits (p budget : ℕ) (b : List ℕ) (t : Tables) : Type 0 where
+  -- and X. Other buffer bytes stay." Of pair p that was s, and what the emission came to
+  pub record Emits (p budget : ℕ) (b : List ℕ) (s : Side) (n : Step Tables) : Type 0 where
     pub went : ℕ
-    pub number : went ≡ (if ltb 0 (side t p .standing .clock .hold) then 0 else min budget (length (endingAfter (side t p))))
-    pub said : call card (on p (emitting budget b)) t .said .reply ≡ Count went
-    pub written : call card (on p (emitting budget b)) t .said .buffer
-        ≡ emissions (side t p .standing) (take went (endingAfter (side t p))) ++ drop (recordBytes * went) b
+    pub number : went ≡ (if ltb 0 (s .standing .clock .hold) then 0 else min budget (length (endingAfter s)))
+    pub said : n .said .reply ≡ Count went
+    pub written : n .said .buffer ≡ emissions (s .standing) (take went (endingAfter s)) ++ drop (recordBytes * went) b
     -- what waits then is what waited, less those that went
-    pub left : endingAfter (side (call card (on p (emitting budget b)) t .next) p) ≡ drop went (endingAfter (side t p))
-    pub h-after : H (side (call card (on p (emitting budget b)) t .next) p)
-        ≡ further (U (side t p)) (H (side t p)) (X (side (call card (on p (emitting budget b)) t .next) p))
+    pub left : endingAfter (side (n .next) p) ≡ drop went (endingAfter s)
+    pub h-after : H (side (n .next) p) ≡ further (U s) (H s) (X (side (n .next) p))
     -- and nothing but X and H moves
-    pub kept : side (call card (on p (emitting budget b)) t .next) p
-        ≡ record {
-          standing =
-              updated
-              (record {
-                u = U (side t p);
-                x = X (side (call card (on p (emitting budget b)) t .next) p);
-                h = H (side (call card (on p (emitting budget b)) t .next) p);
-                n = N (side t p);
-              })
-              (side t p .standing .clock) (side t p .standing);
-          packets = side t p .packets;
-        }
+    pub kept : side (n .next) p ≡ withLine (record { u = U s; x = X (side (n .next) p); h = H (side (n .next) p); n = N s }) s
 
   pub record Demand2 : Type 0 where
-    pub exact : (c : Call) (t : Tables) → Audit card t → Exact c t
-    pub tidy : (p : ℕ) (q : Request) (t : Tables) → Audit card t → firstGiven (refusals card q p (sides t)) ≡ 0 → Tidy p q t
+    pub exact : (c : Call) (t : Tables) → Audit card t → Agree (call card c t) (account card c (sides t))
+    pub tidy : (p : ℕ) (q : Request) (t : Tables) → Audit card t → firstGiven (refusals card q p (sides t)) ≡ 0
+        → Tidy p (effect q (side t p) .move) t (call card (on p q) t .next)
     pub starts : (t : Tables) → Starts t
-    pub emits : (p budget : ℕ) (b : List ℕ) (t : Tables) → CanEmit p budget b t → Emits p budget b t
+    pub emits : (p budget : ℕ) (b : List ℕ) (t : Tables) → CanEmit p budget b t → Emits p budget b (side t p) (call card (on p (emitting budget b)) t)
 
   -- ---- demand 3: "After any sequence of calls from a fresh start"
 

@@ -25,9 +25,10 @@ use Rattle.rules.specs.Response.{unfit, response}
 use Rattle.rules.specs.Timer.{timer}
 use Rattle.rules.specs.Emission.{emitted}
 use Rattle.rules.specs.Slots.{Tables, slotAt, queue, free, times, side}
+use Rattle.rules.specs.Order.{_or_}
 use Rattle.rules.specs.Audit.{Audit}
 use Rattle.rules.specs.Requests.{acknowledging, on}
-use Rattle.rules.specs.Calls.{overlaid, call}
+use Rattle.rules.specs.Calls.{overlaid, Step, call}
 
 -- ---- "An ACK of Sends that leaves R held."
 
@@ -47,7 +48,7 @@ pub record NoneUpTo (p r : ℕ) (t n : Tables) : Type 0 where
   pub slots-free : (i : ℕ) → 1 ≤ times i (queue t p) → UpTo (U (side t p)) r (slotAt (t .slots) i .packet) → times i (free n) ≡ 1
 
 -- an event for R that nothing is wrong with: the tables pass, the pair is ready, R and the lent buffer are in range, and the distance U to R is less than U to H
-pub record Fits (card : Card) (t : Tables) (p r : ℕ) (b : List ℕ) : Type 0 where
+pub record Proper (card : Card) (t : Tables) (p r : ℕ) (b : List ℕ) : Type 0 where
   pub audited : Audit card t
   pub pair : p < card .pairs
   pub is-ready : side t p .standing .state ≡ ready
@@ -55,23 +56,22 @@ pub record Fits (card : Card) (t : Tables) (p r : ℕ) (b : List ℕ) : Type 0 w
   pub buffer : completionBuffer card ≤ length b
   pub open-range : distance (U (side t p)) r < distance (U (side t p)) (H (side t p))
 
--- every read's first unanswered PSN is after R, or at R or after
+-- every read's first unanswered PSN is after R
 abbrev pub ReadsAfter : ℕ → Side → Type 0
 ReadsAfter r s = Each (λ (q : Packet). isRead q ≡ true → distance (U s) r < distance (U s) (unanswered (s .standing) q)) (s .packets)
 
-abbrev pub ReadsFrom : ℕ → Side → Type 0
-ReadsFrom r s = Each (λ (q : Packet). isRead q ≡ true → distance (U s) r ≤ distance (U s) (unanswered (s .standing) q)) (s .packets)
-
 -- it lets go of all packets up to R and of no other, tells the tickets of their messages with status 0, answers "done", and U is past R
-pub record Acked (card : Card) (t : Tables) (p r y : ℕ) (b : List ℕ) : Type 0 where
-  pub none-up-to : NoneUpTo p r t (call card (on p (acknowledging r y b)) t .next)
-  pub done : call card (on p (acknowledging r y b)) t .said .reply ≡ Answered Done (messagesOf (leftWith 0 (none-up-to .gone))) 0
-  pub told : call card (on p (acknowledging r y b)) t .said .buffer ≡ overlaid (completions (leftWith 0 (none-up-to .gone))) b
-  pub u-after : U (side (call card (on p (acknowledging r y b)) t .next) p) ≡ next r
+pub record Acked (p r : ℕ) (b : List ℕ) (t : Tables) (n : Step Tables) : Type 0 where
+  pub none-up-to : NoneUpTo p r t (n .next)
+  pub done : n .said .reply ≡ Answered Done (messagesOf (leftWith 0 (none-up-to .gone))) 0
+  pub told : n .said .buffer ≡ overlaid (completions (leftWith 0 (none-up-to .gone))) b
+  pub u-after : U (side (n .next) p) ≡ next r
 
 -- of every ACK ("Syndrome top bits 000") of R with no read unanswered up to R
 abbrev pub AckFrees : Card → Type 0
-AckFrees card = (t : Tables) (p r y : ℕ) (b : List ℕ) → Fits card t p r b → y < 32 → ReadsAfter r (side t p) → Acked card t p r y b
+AckFrees card =
+    (t : Tables) (p r y : ℕ) (b : List ℕ) → Proper card t p r b → y < 32 → ReadsAfter r (side t p)
+    → Acked p r b t (call card (on p (acknowledging r y b)) t)
 
 -- ---- the same of a NAK or RNR, which must not let go of R
 
@@ -82,22 +82,28 @@ BeforeR u r q = distance u (q .psn) < distance u r
 abbrev pub FromR : ℕ → ℕ → Packet → Type 0
 FromR u r q = distance u r ≤ distance u (q .psn)
 
--- it lets go of all packets before R and of no other, tells them with status 0, and all from R on is to be sent again
-pub record Nacked (card : Card) (t : Tables) (p r y : ℕ) (b : List ℕ) (answer : Answer) : Type 0 where
-  pub gone : List Packet
-  pub rest : side t p .packets ≡ gone ++ side (call card (on p (acknowledging r y b)) t .next) p .packets
-  pub all-before : Each (BeforeR (U (side t p)) r) gone
-  pub all-from : Each (FromR (U (side t p)) r) (side (call card (on p (acknowledging r y b)) t .next) p .packets)
-  pub said : call card (on p (acknowledging r y b)) t .said .reply ≡ Answered answer (messagesOf (leftWith 0 gone)) 0
-  pub told : call card (on p (acknowledging r y b)) t .said .buffer ≡ overlaid (completions (leftWith 0 gone)) b
-  pub u-after : U (side (call card (on p (acknowledging r y b)) t .next) p) ≡ r
-  pub x-after : X (side (call card (on p (acknowledging r y b)) t .next) p) ≡ r
+-- every read's first unanswered PSN is at R or after it
+abbrev pub ReadsFrom : ℕ → Side → Type 0
+ReadsFrom r s = Each (λ (q : Packet). isRead q ≡ true → distance (U s) r ≤ distance (U s) (unanswered (s .standing) q)) (s .packets)
 
--- of every NAK of code 0 to 2 ("011": 96, 97, 98), and of every RNR ("001": 32 to 63) on a pair whose RNR retry is set to 7
+-- it lets go of all packets before R and of no other, tells them with status 0, and all from R on is to be sent again
+pub record Nacked (p r : ℕ) (b : List ℕ) (answer : Answer) (t : Tables) (n : Step Tables) : Type 0 where
+  pub gone : List Packet
+  pub rest : side t p .packets ≡ gone ++ side (n .next) p .packets
+  pub all-before : Each (BeforeR (U (side t p)) r) gone
+  pub all-from : Each (FromR (U (side t p)) r) (side (n .next) p .packets)
+  pub said : n .said .reply ≡ Answered answer (messagesOf (leftWith 0 gone)) 0
+  pub told : n .said .buffer ≡ overlaid (completions (leftWith 0 gone)) b
+  pub u-after : U (side (n .next) p) ≡ r
+  pub x-after : X (side (n .next) p) ≡ r
+
+-- of every NAK of code 0 to 2 ("011": 96, 97, 98), and of every RNR ("001": 32 to 63) on a pair whose RNR retry is set to 7 or has a count left
 pub record NakKeeps (card : Card) : Type 0 where
-  pub nak : (t : Tables) (p r y : ℕ) (b : List ℕ) → Fits card t p r b → 96 ≤ y → y ≤ 98 → ReadsFrom r (side t p) → Nacked card t p r y b Resending
-  pub rnr : (t : Tables) (p r y : ℕ) (b : List ℕ) → Fits card t p r b → 32 ≤ y → y < 64 → side t p .standing .settings .rnr ≡ 7 → ReadsFrom r (side t p)
-      → Nacked card t p r y b Held
+  pub nak : (t : Tables) (p r y : ℕ) (b : List ℕ) → Proper card t p r b → 96 ≤ y → y ≤ 98 → ReadsFrom r (side t p)
+      → Nacked p r b Resending t (call card (on p (acknowledging r y b)) t)
+  pub rnr : (t : Tables) (p r y : ℕ) (b : List ℕ) → Proper card t p r b → 32 ≤ y → y < 64 → ReadsFrom r (side t p)
+      → (side t p .standing .settings .rnr ≡ 7) or (0 < side t p .standing .clock .rnrs)
+      → Nacked p r b Held t (call card (on p (acknowledging r y b)) t)
 
 -- ---- "PSNs compared as plain numbers, wrong at 16,777,215."
 

@@ -11,10 +11,11 @@ use Rattle.rules.specs.Card.{Card}
 use Rattle.rules.specs.Account.{Side}
 use Rattle.rules.specs.Slots.{Tables, sides}
 use Rattle.rules.specs.Audit.{Audit}
-use Rattle.rules.specs.Calls.{Step, account, call}
+use Rattle.rules.specs.Calls.{account, call}
 use Rattle.rules.specs.History.{Run, run}
 use Rattle.rules.specs.Refusals.{refusals}
 use Rattle.rules.specs.Requests.{Call, starting, on}
+use Rattle.rules.specs.Demands.{Agree}
 use Rattle.rules.proofs.Passes.Decided.{complete}
 use Rattle.refusal.specs.Refusals.{firstGiven}
 use Rattle.rules.proofs.Calls.Accepted.{accepted}
@@ -26,26 +27,21 @@ refused-inj e = cc
 
 -- ---- one call: it says what the account says, does what the account does, and leaves audited tables
 
-pub record Agree (card : Card) (c : Step Tables) (a : Step (List Side)) : Type 0 where
-  pub said : c .said ≡ a .said
-  pub same : sides (c .next) ≡ a .next
-  pub audit : Audit card (c .next)
-
 module _ (card : Card) where
   pub agrees : (c : Call) (t : Tables) → Audit card t
       → Agree card (call card c t) (account card c (sides t))
   unfolding call account
   agrees starting t a =
       rw (eq-eqb (length (t .pairs)) (card .pairs) (a .whole .pair-records), eq-eqb (length (t .slots)) (card .slots) (a .whole .slot-records))
-      (record { said = refl; same = fresh-sides card; audit = fresh-audit card })
+      (record { said = refl; sides-after = fresh-sides card; audited = fresh-audit card })
   agrees (on p q) t a =
       rw (complete card t a)
       (by-test (eqb (firstGiven (refusals card q p (sides t))) 0)
       (λ e.
       let h = accepted card q p (sides t) e in
       let hp = h .pair in
-      rw e (record { said = refl; same = moved card t a p hp q h .same; audit = accepted-audit card t a p hp q h }))
-      (λ e. rw e (record { said = refl; same = refl; audit = a })))
+      rw e (record { said = refl; sides-after = moved card t a p hp q h .same; audited = accepted-audit card t a p hp q h }))
+      (λ e. rw e (record { said = refl; sides-after = refl; audited = a })))
 
   -- ---- any calls
 
@@ -59,5 +55,5 @@ module _ (card : Card) where
   agreed [] t a e h = record { said = refl; same = e; audit = h }
   agreed (c ∷ cs) t a e h =
       let one = agrees c t h in
-      let rest = agreed cs (call card c t .next) (account card c a .next) (rw e at (one .same)) (one .audit) in
+      let rest = agreed cs (call card c t .next) (account card c a .next) (rw e at (one .sides-after)) (one .audited) in
       record { said = λ i. (rw e at (one .said)) i ∷ rest .said i; same = rest .same; audit = rest .audit }

@@ -21,7 +21,7 @@ use Rattle.rules.proofs.Calls.Agrees.{agrees}
 module _ (card : Card) where
   module _ (t : Tables) (a : Audit card t) where
     pub stays-audited : (c : Call) → Audit card (call card c t .next)
-    stays-audited c = agrees card c t a .audit
+    stays-audited c = agrees card c t a .audited
 
     others-account : (p : ℕ) (q : Request) (r : ℕ) → r ≢ p → sideAt (account card (on p q) (sides t) .next) r ≡ sideAt (sides t) r
     unfolding account
@@ -32,7 +32,7 @@ module _ (card : Card) where
     pub others : (p : ℕ) (q : Request) (r : ℕ) → r ≢ p → side (call card (on p q) t .next) r ≡ side t r
     others p q r d =
         sym (side-at (call card (on p q) t .next) r)
-        ∙ ap (λ (l : List Side). sideAt l r) (agrees card (on p q) t a .same)
+        ∙ ap (λ (l : List Side). sideAt l r) (agrees card (on p q) t a .sides-after)
         ∙ others-account p q r d
         ∙ side-at t r
 
@@ -45,6 +45,6 @@ module _ (card : Card) where
         → side (call card (on p q) t .next) p ≡ sideAfter (effect q (side t p)) (side t p)
     called p q h e =
         sym (side-at (call card (on p q) t .next) p)
-        ∙ ap (λ (l : List Side). sideAt l p) (agrees card (on p q) t a .same)
+        ∙ ap (λ (l : List Side). sideAt l p) (agrees card (on p q) t a .sides-after)
         ∙ called-account p q h e
         ∙ ap (λ (s : Side). sideAfter (effect q s) s) (side-at t p)

@@ -11,14 +11,14 @@ use Rattle.refusal.proofs.Cases.{if-case}
 use Rattle.rules.specs.declared.Packet.{Packet}
 use Rattle.rules.specs.declared.Reply.the-variants.{Count}
 use Rattle.rules.specs.Card.{Card}
-use Rattle.rules.specs.Account.{Side, U, X, H, N, further, updated}
+use Rattle.rules.specs.Account.{Side, U, X, H, N, further}
 use Rattle.rules.specs.Ranges.{largestBudget}
 use Rattle.rules.specs.Emission.{waiting, going, outgoing, emitted, recordBytes, emissions}
 use Rattle.rules.specs.Slots.{Tables, side, sides}
 use Rattle.rules.specs.Calls.{overlaid, call}
 use Rattle.rules.specs.Refusals.{refusals}
 use Rattle.rules.specs.Requests.{emitting, on}
-use Rattle.rules.specs.Demands.{endingAfter, CanEmit, Emits}
+use Rattle.rules.specs.Demands.{endingAfter, CanEmit, Emits, withLine}
 use Rattle.rules.proofs.Passes.Decided.{complete}
 use Rattle.rules.proofs.Sides.InOrder.{InOrder, audited-order}
 use Rattle.rules.proofs.Sides.Waiting.{waiting-is, going-is, left-is}
@@ -68,16 +68,8 @@ module _ (card : Card) (p budget : ℕ) (b : List ℕ) (t : Tables) (can : CanEm
   unfolding emitted
   after = called card t (can .audited) p (emitting budget b) (can .pair) none
 
-  with-x-and-h : ℕ → ℕ → Side
-  with-x-and-h x h =
-      record {
-        standing =
-            updated (record { u = U (side t p); x = x; h = h; n = N (side t p) }) (side t p .standing .clock) (side t p .standing);
-        packets = side t p .packets;
-      }
-
-  pub emits : Emits card p budget b t
-  unfolding emitted with-x-and-h
+  pub emits : Emits card p budget b (side t p) (call card (on p (emitting budget b)) t)
+  unfolding emitted
   emits =
       record {
         went = going budget (side t p);
@@ -86,5 +78,5 @@ module _ (card : Card) (p budget : ℕ) (b : List ℕ) (t : Tables) (can : CanEm
         written = laid-in ∙ laid budget b (side t p) in-order;
         left = ap endingAfter after ∙ left-is budget (side t p) in-order;
         h-after = ap H after ∙ ap (λ (s : Side). further (U (side t p)) (H (side t p)) (X s)) (sym after);
-        kept = subst⁻¹ (λ (s : Side). s ≡ with-x-and-h (X s) (H s)) after refl;
+        kept = subst⁻¹ (λ (s : Side). s ≡ withLine (record { u = U (side t p); x = X s; h = H s; n = N (side t p) }) (side t p)) after refl;
       }

@@ -47,7 +47,7 @@ module _ (card : Card) (t : Tables) (n : ℕ) where
       (λ e. rw e (λ r. let z : _≡_ {A = ℕ} 0 1 = cc in absurd (omega arith)))
       (λ e. rw e (λ r. refl))
 
--- the one-to-nine of the lines
+-- the numbers of the rows
 abbrev Low : List Row → Type 0
 Low ls = Each (λ (l : Row). l .number ≤ 9) ls
 

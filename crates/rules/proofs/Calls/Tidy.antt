@@ -1,6 +1,5 @@
 -- Slots move as 01 says: from the pair's front to the free queue's end, from the free queue's front to the pair's end; no other pair's queue and no other packet changes.
-use mathlib.Core.Path.{_≡_, ap, _∙_}
-use mathlib.Core.Logic.{_≢_}
+use mathlib.Core.Path.{_≡_, ap, subst}
 use Prim.Native.Nat.{ℕ, _+_, _<_, _≤_}
 use borrow.Author.Tests.{eq-eqb}
 use lib.ListN.{length}
@@ -8,12 +7,12 @@ use Rattle.refusal.specs.Refusals.{firstGiven}
 use Rattle.rules.specs.declared.Standing.{Standing}
 use Rattle.rules.specs.Card.{Card}
 use Rattle.rules.specs.Account.{Side}
-use Rattle.rules.specs.Slots.{Tables, slotAt, free, queue, times, side, sides}
+use Rattle.rules.specs.Slots.{Tables, free, queue, side, sides}
 use Rattle.rules.specs.Audit.{Whole, Audit}
 use Rattle.rules.specs.Requests.{Request, opening, posting, emitting, acknowledging, responding, ticking, closing, on}
 use Rattle.rules.specs.Refusals.{sideAt, refusals}
 use Rattle.rules.specs.Calls.{Move, leaves, joins, effect, tablesAfter, call}
-use Rattle.rules.specs.Demands.{queueAfter, freeAfter, storedIn, Tidy}
+use Rattle.rules.specs.Demands.{Tidy}
 use Rattle.rules.proofs.Passes.Decided.{complete}
 use Rattle.rules.proofs.Slots.Freed.{freed-queue, freed-free, freed-other-queue, freed-packet}
 use Rattle.rules.proofs.Slots.Stored.{stored-queue, stored-free, stored-other-queue, stored-packet}
@@ -21,18 +20,12 @@ use Rattle.rules.proofs.Calls.Accepted.{Accepted, accepted}
 use Rattle.rules.proofs.Calls.Moves.{side-at, post-fits}
 
 module _ (card : Card) (t : Tables) (w : Whole card t) (p : ℕ) (hp : p < card .pairs) (st : Standing) where
-  record Books (m : Move) (n : Tables) : Type 0 where
-    queue-after : queue n p ≡ queueAfter m (free t) (queue t p)
-    free-after : free n ≡ freeAfter m (free t) (queue t p)
-    others-after : (r : ℕ) → r < card .pairs → r ≢ p → queue n r ≡ queue t r
-    kept : (i : ℕ) → times i (storedIn m (free t)) ≡ 0 → slotAt (n .slots) i .packet ≡ slotAt (t .slots) i .packet
-
   -- what joins finds as many free
   abbrev Fits : Move → Type 0
   Fits (leaves r f) = Unit {0}
   Fits (joins qs) = length qs ≤ length (free t)
 
-  books : (m : Move) → Fits m → Books m (tablesAfter (card .none) p st m t)
+  books : (m : Move) → Fits m → Tidy card p m t (tablesAfter (card .none) p st m t)
   books (leaves r f) fit =
       record {
         queue-after = freed-queue card t w p hp st (r + f);
@@ -58,15 +51,11 @@ module _ (card : Card) (t : Tables) (a : Audit card t) (p : ℕ) where
   fits (ticking e b) h = tt
   fits (closing b) h = tt
 
-  pub tidy : (q : Request) → firstGiven (refusals card q p (sides t)) ≡ 0 → Tidy card p q t
+  pub tidy : (q : Request) → firstGiven (refusals card q p (sides t)) ≡ 0 → Tidy card p (effect q (side t p) .move) t (call card (on p q) t .next)
   unfolding call
   tidy q e =
       let h = accepted card q p (sides t) (eq-eqb (firstGiven (refusals card q p (sides t))) 0 e) in
       let b = books card t (a .whole) p (h .pair) (effect q (sideAt (sides t) p) .standing) (effect q (sideAt (sides t) p) .move) (fits q h) in
-      let same : effect q (sideAt (sides t) p) .move ≡ effect q (side t p) .move = ap (λ (s : Side). effect q s .move) (side-at t p) in
-      record {
-        queue-after = rw (complete card t a, e) (b .queue-after ∙ ap (λ (m : Move). queueAfter m (free t) (queue t p)) same);
-        free-after = rw (complete card t a, e) (b .free-after ∙ ap (λ (m : Move). freeAfter m (free t) (queue t p)) same);
-        others-after = rw (complete card t a, e) (b .others-after);
-        kept = λ i z. rw (complete card t a, e) (b .kept i (ap (λ (m : Move). times i (storedIn m (free t))) same ∙ z));
-      }
+      rw (complete card t a, e)
+      (subst (λ (m : Move). Tidy card p m t (tablesAfter (card .none) p (effect q (sideAt (sides t) p) .standing) (effect q (sideAt (sides t) p) .move) t))
+      (ap (λ (s : Side). effect q s .move) (side-at t p)) b)

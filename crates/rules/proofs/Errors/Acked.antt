@@ -157,7 +157,8 @@ module _ (card : Card) (t : Tables) (w : Whole card t) (p : ℕ) (low : p < card
 
 -- one that meets none of 1 to 9, is not dropped and not stopped
 acked-clean : (card : Card) (t : Tables) → Audit card t → (p r y : ℕ) (b : List ℕ)
-    → firstGiven (refusals card (acknowledging r y b) p (sides t)) ≡ 0 → Clean r y (side t p) → Acked card t p r y b
+    → firstGiven (refusals card (acknowledging r y b) p (sides t)) ≡ 0 → Clean r y (side t p)
+    → Acked p r b t (call card (on p (acknowledging r y b)) t)
 unfolding none-up-to
 acked-clean card t a p r y b given c =
     record {
@@ -194,15 +195,30 @@ acked card t p r y b f low reads =
     acked-clean card t (f .audited) p r y b (given-none card t p r y b f (rw top))
     (record { top = top; within = h; clear = unstopped (plus r 1) (side t p) (reads-from-next (side t p) order r h reads) })
 
--- and the other way: whatever is answered "done" was such an ACK, of audited tables
-pub acked-when-done : (card : Card) (t : Tables) (p r y : ℕ) (b : List ℕ) (messages place : ℕ)
-    → call card (on p (acknowledging r y b)) t .said .reply ≡ Answered Done messages place → Acked card t p r y b
+-- what was answered "done": audited tables, none of 1 to 9 met, an ACK that was not dropped and not stopped
+record Was (card : Card) (t : Tables) (p r y : ℕ) (b : List ℕ) : Type 0 where
+  audit : Audit card t
+  given : firstGiven (refusals card (acknowledging r y b) p (sides t)) ≡ 0
+  clean : Clean r y (side t p)
+
+was : (card : Card) (t : Tables) (p r y : ℕ) (b : List ℕ) (messages place : ℕ)
+    → call card (on p (acknowledging r y b)) t .said .reply ≡ Answered Done messages place → Was card t p r y b
 unfolding call
-acked-when-done card t p r y b messages place =
+was card t p r y b messages place =
     by-test (passes card t)
     (λ e. rw e (by-test (eqb (firstGiven (refusals card (acknowledging r y b) p (sides t))) 0)
     (λ q. rw q (λ d.
-    acked-clean card t (sound card t e) p r y b (eqb-true (firstGiven (refusals card (acknowledging r y b) p (sides t))) 0 q)
-    (rw (side-at t p) at (clean r y (sideAt (sides t) p) (cc)))))
+    record {
+      audit = sound card t e;
+      given = eqb-true (firstGiven (refusals card (acknowledging r y b) p (sides t))) 0 q;
+      clean = rw (side-at t p) at (clean r y (sideAt (sides t) p) (cc));
+    }))
     (λ q. rw q (λ d. let z : _≡_ {A = ℕ} 0 1 = cc in absurd (omega arith)))))
     (λ e. rw e (λ d. let z : _≡_ {A = ℕ} 0 1 = cc in absurd (omega arith)))
+
+-- and the other way: whatever is answered "done" was such an ACK, of audited tables
+pub acked-when-done : (card : Card) (t : Tables) (p r y : ℕ) (b : List ℕ) (messages place : ℕ)
+    → call card (on p (acknowledging r y b)) t .said .reply ≡ Answered Done messages place → Acked p r b t (call card (on p (acknowledging r y b)) t)
+acked-when-done card t p r y b messages place d =
+    let w = was card t p r y b messages place d in
+    acked-clean card t (w .audit) p r y b (w .given) (w .clean)

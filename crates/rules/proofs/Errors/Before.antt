@@ -31,7 +31,7 @@ use Rattle.rules.specs.Audit.{Audit}
 use Rattle.rules.specs.Refusals.{sideAt, refusals}
 use Rattle.rules.specs.Requests.{acknowledging, on}
 use Rattle.rules.specs.Calls.{overlaid, call}
-use Rattle.rules.specs.Errors.{Fits, ReadsFrom, BeforeR, FromR}
+use Rattle.rules.specs.Errors.{Proper, ReadsFrom, BeforeR, FromR}
 use Rattle.rules.proofs.Passes.Decided.{complete}
 use Rattle.rules.proofs.Sides.InOrder.{RunsLow, InOrder}
 use Rattle.rules.proofs.Sides.Order.{all-before, whole-or-part, Part}
@@ -116,12 +116,12 @@ module _ (b : ℕ) (s : Side) (e : release b s .stopped ≡ false) where
 
 module _ (card : Card) (t : Tables) (p r y : ℕ) (b : List ℕ) where
   -- none of 1 to 9 is met
-  pub given-none : Fits card t p r b → badSyndrome y ≡ false → firstGiven (refusals card (acknowledging r y b) p (sides t)) ≡ 0
+  pub given-none : Proper card t p r b → badSyndrome y ≡ false → firstGiven (refusals card (acknowledging r y b) p (sides t)) ≡ 0
   given-none f low =
       let is : sideAt (sides t) p ≡ side t p = side-at t p in
       rw (lt-leb (card .pairs) p (f .pair), is, eq-eqb (side t p .standing .state) 1 (f .is-ready), lt-leb psns r (f .psn), low, le-ltb _ _ (f .buffer))
 
-  pub within : Fits card t p r b → inside r (side t p) ≡ true
+  pub within : Proper card t p r b → inside r (side t p) ≡ true
   within f = lt-ltb _ _ (f .open-range)
 
   -- where it comes to this outcome, which flushes nothing
