@@ -8,8 +8,7 @@ use native.Mathlib.Nat.{div-mul-le-self, mul-le-mul-right}
 use lib.Pow.{pow-pos}
 use lib.Dec.{eqb, ltb}
 use borrow.Author.Tests.{ltb-true, eqb-true, eqb-false}
-use lib.ListN.{length, drop, length-map}
-use Rattle.refusal.proofs.Each.{each-append, each-drop}
+use lib.ListN.{length, length-map}
 use Rattle.refusal.proofs.Cases.{by-test, if-case}
 use Rattle.refusal.specs.Choice.{if_then_else_, Each}
 use Rattle.rules.specs.declared.Packet.{Packet}
@@ -24,10 +23,11 @@ use Rattle.rules.specs.Message.{isRead, span, pmtu, packetsFor, from, op
 use Rattle.rules.specs.Slots.{Tables, slotAt, pairAt, spelled, sideOf, side}
 use Rattle.rules.specs.Pool.{Claim, claimOf, claims}
 use Rattle.rules.specs.Order.{_or_, left, right}
-use Rattle.rules.specs.WholeMessages.{Allowed, Messages, no-more, message, Remaining, none-left, rear}
+use Rattle.rules.specs.WholeMessages.{Allowed, Remaining}
 use Rattle.psn.proofs.Laws.{distance-same}
 use Rattle.rules.proofs.Slots.Queues.{length-follow}
 use Rattle.rules.proofs.Ranges.{Permitted, permitted}
+use Rattle.rules.proofs.Sides.Messages.{remaining-each}
 use Rattle.rules.proofs.Sides.Order.{span-pos}
 use Rattle.rules.proofs.Sides.Posted.{no-read}
 
@@ -125,16 +125,9 @@ module _ (s : Settings) (m : Post) (first : ℕ) (ok : Allowed s m) where
       ))
       (λ e. each-from Fits (packetAt s m first) 0 (packetsFor (pmtu s) (m .length)) (λ i h. packet-fits (omega (arith, ok′ .kind, eqb-false (m .kind) 2 e)) i (omega arith)))
 
-module _ (s : Settings) where
-  messages-fit : {ps : List Packet} → Messages s ps → Each Fits ps
-  messages-fit no-more = tt
-  messages-fit (message m a rest f e r) = rw e (each-append Fits (packetsOf s m a) rest (packets-fit s m a f) (messages-fit r))
-
-  -- whatever an audited pair holds
-  pub held-fit : {ps : List Packet} → Remaining s ps → Each Fits ps
-  held-fit none-left = tt
-  held-fit (rear m a k rest f h e r) =
-      rw e (each-append Fits (drop k (packetsOf s m a)) rest (each-drop Fits k (packetsOf s m a) (packets-fit s m a f)) (messages-fit r))
+-- whatever an audited pair holds
+pub held-fit : (s : Settings) {ps : List Packet} → Remaining s ps → Each Fits ps
+held-fit s = remaining-each s Fits (packets-fit s)
 
 -- ---- a place inside a read: its offset and address fit
 

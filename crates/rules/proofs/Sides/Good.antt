@@ -28,7 +28,7 @@ use Rattle.rules.specs.Response.{covers, readAt, unfit, response}
 use Rattle.rules.specs.Timer.{timer}
 use Rattle.rules.specs.Pool.{claimOf}
 use Rattle.rules.specs.Order.{_or_, left, right}
-use Rattle.rules.specs.WholeMessages.{Allowed, Messages, no-more, message, Remaining, none-left, rear}
+use Rattle.rules.specs.WholeMessages.{Allowed, message, Remaining, none-left}
 use Rattle.rules.specs.Audit.{Bounded, Timed}
 use Rattle.rules.proofs.Sides.After.{after}
 use Rattle.rules.proofs.Sides.InOrder.{InOrder}
@@ -36,7 +36,7 @@ use Rattle.psn.proofs.Laws.{distance-same}
 use Rattle.rules.proofs.Ranges.{in-range, permitted}
 use Rattle.rules.proofs.Sides.Order.{ahead-most, packets-pos}
 use Rattle.rules.proofs.Sides.Posted.{no-read, ordered-posted}
-use Rattle.rules.proofs.Sides.Messages.{held-drop, held-post}
+use Rattle.rules.proofs.Sides.Messages.{held-drop, held-post, remaining-each}
 use Rattle.rules.proofs.Sides.Acknowledge.{Fine, fine-acknowledge}
 use Rattle.rules.proofs.Sides.Response.{fine-response}
 use Rattle.rules.proofs.Sides.Timer.{fine-timer}
@@ -80,16 +80,8 @@ module _ (s : Settings) (m : Post) (a : ℕ) where
       (λ e. each-map Short (packetAt s m a) (from 0 (packetsFor (pmtu s) (m .length)))
       (λ i q. absurd (true≢false (sym q ∙ no-read m (packetsFor (pmtu s) (m .length)) i (omega (arith, eqb-false (m .kind) 2 e))))))
 
-module _ (s : Settings) where
-  messages-short : {ps : List Packet} → Messages s ps → Each Short ps
-  messages-short no-more = tt
-  messages-short (message m a rest f e r) =
-      rw e (each-append Short (packetsOf s m a) rest (packets-short s m a (permitted f .kind) (permitted f .short)) (messages-short r))
-
-  held-short : {ps : List Packet} → Remaining s ps → Each Short ps
-  held-short none-left = tt
-  held-short (rear m a k rest f h e r) =
-      rw e (each-append Short (drop k (packetsOf s m a)) rest (each-drop Short k (packetsOf s m a) (packets-short s m a (permitted f .kind) (permitted f .short))) (messages-short r))
+held-short : (s : Settings) {ps : List Packet} → Remaining s ps → Each Short ps
+held-short s = remaining-each s Short (λ m a f. packets-short s m a (permitted f .kind) (permitted f .short))
 
 -- a read's PSNs are at most 8,388,608
 span-small : (s : Settings) → 1 ≤ s .pmtu → (p : Packet) → Short p → span s p ≤ suc half

@@ -7,7 +7,7 @@ use native.Mathlib.Omega.{arith}
 use lib.Dec.{eqb, ltb}
 use borrow.Author.Tests.{eqb-false, le-ltb, lt-leb, le-leb}
 use lib.ListN.{drop, replicate}
-use Rattle.refusal.proofs.Each.{each-append, each-drop, each-map, each-both}
+use Rattle.refusal.proofs.Each.{each-drop, each-map, each-both}
 use Rattle.refusal.specs.Choice.{if_then_else_, Each}
 use Rattle.refusal.proofs.Cases.{if-case}
 use Rattle.psn.specs.Psn.{psns, distance, before}
@@ -25,9 +25,10 @@ use Rattle.rules.specs.Account.{U, X, ahead}
 use Rattle.rules.specs.Message.{psnsFor, opcodeAt, readRequest, packetAt, from, packetsOf, isRead, span}
 use Rattle.rules.specs.Emission.{ends, waiting, sent, padFor, headerOf}
 use Rattle.rules.specs.Slots.{Tables, side}
-use Rattle.rules.specs.WholeMessages.{Messages, no-more, message, Remaining, none-left, rear}
+use Rattle.rules.specs.WholeMessages.{message, Remaining}
 use Rattle.rules.specs.Audit.{Audit}
 use Rattle.rules.proofs.Ranges.{in-range, permitted}
+use Rattle.rules.proofs.Sides.Messages.{remaining-each}
 
 -- "emission's pad fills the payload to a multiple of 4"
 pub pad-fills : (n : ℕ) → (n + padFor n) % 4 ≡ 0
@@ -62,16 +63,9 @@ packets-ask s m first k =
     (λ _. (omega arith, tt))
     (λ e. each-map Asks (packetAt s m first) (from 0 (psnsFor s m)) (λ i. opcode-low m (psnsFor s m) i (omega (arith, eqb-false (m .kind) 2 e))))
 
-module _ (s : Settings) where
-  messages-ask : {ps : List Packet} → Messages s ps → Each Asks ps
-  messages-ask no-more = tt
-  messages-ask (message m a rest f e r) = rw e (each-append Asks (packetsOf s m a) rest (packets-ask s m a (permitted f .kind)) (messages-ask r))
-
-  -- "Send First 0" to "Read Request 12", nothing else
-  pub held-ask : {ps : List Packet} → Remaining s ps → Each (λ p. p .opcode ≤ readRequest) ps
-  held-ask none-left = tt
-  held-ask (rear m a k rest f h e r) =
-      rw e (each-append Asks (drop k (packetsOf s m a)) rest (each-drop Asks k (packetsOf s m a) (packets-ask s m a (permitted f .kind))) (messages-ask r))
+-- "Send First 0" to "Read Request 12", nothing else
+pub held-ask : (s : Settings) {ps : List Packet} → Remaining s ps → Each (λ p. p .opcode ≤ readRequest) ps
+held-ask s = remaining-each s Asks (λ m a f. packets-ask s m a (permitted f .kind))
 
 -- ---- a header in range
 

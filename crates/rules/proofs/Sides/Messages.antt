@@ -1,4 +1,4 @@
--- A release, a flush and a post keep whole messages.
+-- A release, a flush and a post keep whole messages; and what holds of a post's packets holds of all that is left of posts.
 use mathlib.Core.Path.{_≡_, sym, ap, _∙_}
 use mathlib.Core.List.{List, [], _++_, append-assoc, append-nil}
 use Prim.Native.Nat.{ℕ, _+_, _-_, _≤_, _<_}
@@ -7,7 +7,9 @@ use lib.Dec.{ltb}
 use borrow.Author.Tests.{ltb-true, ltb-false}
 use lib.ListN.{length, drop, length-drop}
 use lib.Seq.{drop-append-le, drop-append-add, drop-drop, drop-nil}
+use Rattle.refusal.specs.Choice.{Each}
 use Rattle.refusal.proofs.Cases.{by-test}
+use Rattle.refusal.proofs.Each.{each-append, each-drop}
 use Rattle.rules.specs.declared.Packet.{Packet}
 use Rattle.rules.specs.declared.Settings.{Settings}
 use Rattle.rules.specs.declared.Post.{Post}
@@ -54,3 +56,14 @@ module _ (s : Settings) where
   held-post m first f pos none-left = rear m first 0 [] f pos (sym (append-nil (packetsOf s m first))) no-more
   held-post m first f pos (rear n a k rest g h e r) =
       rear n a k (rest ++ packetsOf s m first) g h (ap (λ (l : List Packet). l ++ packetsOf s m first) e ∙ append-assoc (drop k (packetsOf s n a)) rest (packetsOf s m first)) (messages-post m first f r)
+
+-- what holds of every packet that an allowed post is split into holds of all that a pair has left
+module _ (s : Settings) (P : Packet → Type 0) (split : (m : Post) (first : ℕ) → Allowed s m → Each P (packetsOf s m first)) where
+  messages-each : {ps : List Packet} → Messages s ps → Each P ps
+  messages-each no-more = tt
+  messages-each (message m first rest f e r) = rw e (each-append P (packetsOf s m first) rest (split m first f) (messages-each r))
+
+  pub remaining-each : {ps : List Packet} → Remaining s ps → Each P ps
+  remaining-each none-left = tt
+  remaining-each (rear m first k rest f h e r) =
+      rw e (each-append P (drop k (packetsOf s m first)) rest (each-drop P k (packetsOf s m first) (split m first f)) (messages-each r))
