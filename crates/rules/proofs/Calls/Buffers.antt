@@ -2,7 +2,7 @@
 use mathlib.Core.Path.{_≡_, refl, ap}
 use mathlib.Core.Bool.{false, not}
 use mathlib.Core.List.{List, [], _∷_}
-use Prim.Native.Nat.{ℕ, zero, suc, _*_, _≤_, _<_}
+use Prim.Native.Nat.{ℕ, _*_, _≤_, _<_}
 use native.Mathlib.Omega.{arith}
 use lib.Dec.{eqb, ltb}
 use borrow.Author.Tests.{ltb-false, eqb-false}
@@ -10,7 +10,7 @@ use lib.ListN.{length, drop, length-append, length-drop, length-take}
 use Rattle.refusal.proofs.Cases.{by-test, if-case}
 use Rattle.rules.specs.declared.Packet.{Packet}
 use Rattle.rules.specs.declared.Standing.{Standing}
-use Rattle.wire.specs.Bytes.{bytes}
+use Rattle.wire.proofs.Bytes.{bytes-length}
 use Rattle.wire.proofs.Writing.{bytes-whole}
 use Rattle.rules.specs.Card.{Card}
 use Rattle.rules.specs.Account.{Side}
@@ -40,15 +40,10 @@ length-written new old h = omega (arith, length-append new (drop (length new) ol
 going-most : (budget : ℕ) (s : Side) → going budget s ≤ budget
 going-most budget s = if-case (λ (n : ℕ). n ≤ budget) (ltb 0 (s .standing .clock .hold)) (λ _. omega arith) (λ _. omega arith)
 
-length-bytes : (k n : ℕ) → length (bytes k n) ≡ k
-unfolding bytes
-length-bytes zero n = refl
-length-bytes (suc k) n = ap suc (length-bytes k n)
-
 length-emission : (t : Standing) (p : Packet) → length (emission t p) ≡ recordBytes
 length-emission t p =
     let q = sent t p in
-    simp (length-append, length-bytes, bytes-whole (headerOf (t .settings) q)) refl
+    simp (length-append, bytes-length, bytes-whole (headerOf (t .settings) q)) refl
 
 pub length-emissions : (t : Standing) (ps : List Packet) → length (emissions t ps) ≡ recordBytes * length ps
 length-emissions t [] = refl

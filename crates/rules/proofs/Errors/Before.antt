@@ -13,7 +13,6 @@ use Rattle.refusal.specs.Refusals.{firstGiven}
 use Rattle.refusal.proofs.Cases.{by-test, if-case}
 use Rattle.refusal.proofs.Each.{each-so}
 use Rattle.psn.specs.Psn.{psns, distance, before}
-use Rattle.psn.proofs.Laws.{distance-same}
 use Rattle.rules.specs.declared.Packet.{Packet}
 use Rattle.rules.specs.declared.Standing.{Standing}
 use Rattle.rules.specs.declared.Answer.{Answer}
@@ -34,7 +33,7 @@ use Rattle.rules.specs.Calls.{overlaid, call}
 use Rattle.rules.specs.Errors.{Proper, ReadsFrom, BeforeR, FromR}
 use Rattle.rules.proofs.Passes.Decided.{complete}
 use Rattle.rules.proofs.Sides.InOrder.{RunsLow, InOrder}
-use Rattle.rules.proofs.Sides.Order.{all-before, whole-or-part, Part}
+use Rattle.rules.proofs.Sides.Order.{all-before, whole-or-part, Part, part-stops}
 use Rattle.rules.proofs.Sides.Response.{Clear, clear}
 use Rattle.rules.proofs.Calls.Moves.{side-at}
 
@@ -103,14 +102,8 @@ module _ (b : ℕ) (s : Side) (e : release b s .stopped ≡ false) where
           (omega arith))
       go (right q) =
           by-test (ltb 0 (distance (U s) b))
-          (λ f. absurd (not-suc-le-zero (rw (q .is) at (rw (first f) at (c .none)))))
+          (λ f. absurd (not-suc-le-zero (rw (q .is) at (rw (part-stops s q b f) at (c .none)))))
           (λ f. all-from-u (U s) b (omega (arith, ltb-false)) (drop (release b s .released) (s .packets)))
-        where
-          at-u : unanswered (s .standing) (q .head) ≡ U s
-          at-u = rw (lt-ltb _ _ (q .inside))
-
-          first : ltb 0 (distance (U s) b) ≡ true → ahead (passedBy b (s .standing)) (s .packets) ≡ 0
-          first f = rw (q .is) (rw (at-u, distance-same, q .read, f))
 
 -- ---- the call
 

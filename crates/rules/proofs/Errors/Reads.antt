@@ -3,11 +3,11 @@ use mathlib.Core.Path.{_≡_, refl, sym, ap, _∙_, subst}
 use mathlib.Core.Logic.{_≢_}
 use mathlib.Core.Bool.{true, false, not, _&&_, true≢false}
 use mathlib.Core.List.{List, [], _∷_, map}
-use Prim.Native.Nat.{ℕ, zero, suc, _+_, _≤_, _<_}
+use Prim.Native.Nat.{ℕ, zero, _+_, _≤_, _<_}
 use native.Mathlib.Omega.{arith}
 use native.Mathlib.Nat.{add-zero}
 use lib.Dec.{eqb, ltb, leb}
-use borrow.Author.Tests.{ltb-true, ltb-false, lt-ltb, le-ltb, leb-false, not-false}
+use borrow.Author.Tests.{ltb-true, ltb-false, le-ltb, leb-false, not-false}
 use lib.ListN.{length, getD, take, drop}
 use Rattle.refusal.specs.Choice.{Each}
 use Rattle.refusal.proofs.Cases.{by-test, if-case, or-left}
@@ -41,8 +41,8 @@ use Rattle.refusal.specs.Refusals.{firstGiven}
 use Rattle.rules.proofs.Slots.Links.{times-parts}
 use Rattle.rules.proofs.Slots.Freed.{freed-queue, freed-side}
 use Rattle.rules.proofs.Slots.Queues.{pair-and-free}
-use Rattle.psn.proofs.Laws.{distance-same, distance-from, distance-zero}
-use Rattle.rules.proofs.Sides.Order.{runs-end, unanswered-is, all-before, halted, none-passed, none-before, Part, whole-or-part}
+use Rattle.psn.proofs.Laws.{distance-from, distance-zero}
+use Rattle.rules.proofs.Sides.Order.{runs-end, unanswered-is, all-before, halted, none-passed, none-before, Part, whole-or-part, part-at-u, part-stops, part-some}
 use Rattle.rules.proofs.Sides.Scan.{stays, released-is}
 use Rattle.rules.proofs.Calls.Accepted.{accepted, is-ready}
 use Rattle.rules.proofs.Calls.Moves.{side-at}
@@ -109,21 +109,12 @@ module _ (s : Side) (o : InOrder s) (b : ℕ) (low : b < psns) (near : distance 
   unfolding release
   left-part c =
       by-test (ltb 0 (distance (U s) b))
-      (λ e. rw (first e, some, head, at-u) (all-same (s .standing) (s .packets)))
+      (λ e. rw (part-stops s c b e, part-some s c, head, part-at-u s c) (all-same (s .standing) (s .packets)))
       (λ e.
       let z : distance (U s) b ≡ 0 = omega (arith, ltb-false) in
       rw (le-ltb _ _ (none-passed (s .standing) b z (s .packets)), none-before (s .standing) b z (s .packets))
       (rw (distance-zero (U s) b (o .u-low) low z) (all-same (s .standing) (s .packets))))
     where
-      at-u : unanswered (s .standing) (c .head) ≡ U s
-      at-u = rw (lt-ltb _ _ (c .inside))
-
-      first : ltb 0 (distance (U s) b) ≡ true → ahead (passedBy b (s .standing)) (s .packets) ≡ 0
-      first e = rw (c .is) (rw (at-u, distance-same, c .read, e))
-
-      some : ltb 0 (length (s .packets)) ≡ true
-      some = rw (c .is) (lt-ltb 0 (suc (length (c .tail))) (omega arith))
-
       head : getD (s .packets) 0 noPacket ≡ c .head
       head = rw (c .is)
 

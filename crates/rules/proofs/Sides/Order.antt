@@ -233,6 +233,17 @@ pub record Part (s : Settings) (u : ℕ) (ps : List Packet) : Type 0 where
   pub read : isRead head ≡ true
   pub inside : distance (head .psn) u < span s head
 
+-- of a queue that starts inside a read: that read's first unanswered PSN is U, so a release before anything past U stops at it at once
+module _ (s : Side) (c : Part (s .standing .settings) (U s) (s .packets)) where
+  pub part-at-u : unanswered (s .standing) (c .head) ≡ U s
+  part-at-u = rw (lt-ltb _ _ (c .inside))
+
+  pub part-stops : (b : ℕ) → ltb 0 (distance (U s) b) ≡ true → ahead (passedBy b (s .standing)) (s .packets) ≡ 0
+  part-stops b e = rw (c .is) (rw (part-at-u, distance-same, c .read, e))
+
+  pub part-some : ltb 0 (length (s .packets)) ≡ true
+  part-some = rw (c .is) (lt-ltb 0 (suc (length (c .tail))) (omega arith))
+
 pub whole-or-part : (s : Settings) (u n : ℕ) → u < psns → (ps : List Packet) → StartsLow (span s) u ps n → RunsLow (span s) u 0 ps n or Part s u ps
 whole-or-part s u n low [] h = left h
 whole-or-part s u n low (p ∷ ps) h =
@@ -278,21 +289,12 @@ module _ (s : Side) (o : InOrder s) where
     unfolding release
     kept-part c =
         by-test (ltb 0 (distance (U s) b))
-        (λ e. rw (first e, some, head, at-u) (_, refl, kept-same))
+        (λ e. rw (part-stops s c b e, part-some s c, head, part-at-u s c) (_, refl, kept-same))
         (λ e.
         let z = zero e in
         rw (le-ltb _ _ (none-passed (s .standing) b z (s .packets)), none-before (s .standing) b z (s .packets))
         (b, refl, rw (distance-zero (U s) b (o .u-low) low z) kept-same))
       where
-        at-u : unanswered (s .standing) (c .head) ≡ U s
-        at-u = rw (lt-ltb _ _ (c .inside))
-
-        first : ltb 0 (distance (U s) b) ≡ true → ahead (passedBy b (s .standing)) (s .packets) ≡ 0
-        first e = rw (c .is) (rw (at-u, distance-same, c .read, e))
-
-        some : ltb 0 (length (s .packets)) ≡ true
-        some = rw (c .is) (lt-ltb 0 (suc (length (c .tail))) (omega arith))
-
         head : getD (s .packets) 0 noPacket ≡ c .head
         head = rw (c .is)
 

@@ -15,14 +15,14 @@ use Rattle.rules.specs.declared.Packet.{Packet}
 use Rattle.rules.specs.declared.Answer.the-variants.{Resending}
 use Rattle.psn.specs.Psn.{psns, half, distance, plus, before}
 use Rattle.rules.specs.Account.{Side, U, X, H, N, ahead, noPacket, further}
-use Rattle.rules.specs.Message.{span, unanswered}
+use Rattle.rules.specs.Message.{span}
 use Rattle.rules.specs.Release.{advanced, release, passedBy}
 use Rattle.rules.specs.Acknowledge.{inside}
 use Rattle.rules.specs.Response.{covers, readAt, taken, response}
 use Rattle.rules.specs.Order.{_or_, left, right}
 use Rattle.rules.proofs.Sides.InOrder.{RunsLow, StartsLow, InOrder}
-use Rattle.psn.proofs.Laws.{distance-same, distance-zero, distance-from, distance-step, distance-plus}
-use Rattle.rules.proofs.Sides.Order.{whole-or-part, Part, none-before, ordered-release}
+use Rattle.psn.proofs.Laws.{distance-zero, distance-from, distance-step, distance-plus}
+use Rattle.rules.proofs.Sides.Order.{whole-or-part, Part, none-before, ordered-release, part-stops}
 use Rattle.rules.proofs.Sides.Responded.{covers-first, ordered-last, ordered-inside}
 use Rattle.rules.proofs.Sides.Acknowledge.{Fine, release-keeps, again}
 
@@ -56,17 +56,11 @@ module _ (s : Side) (ready : s .standing .state ≡ 1) (o : InOrder s) (r : ℕ)
       go (left q) = covers-first (s .standing) (o .u-low) r low (N s) (o .near) 0 (s .packets) q (omega arith) (c .none) one
       go (right q) =
           by-test (ltb 0 (distance (U s) r))
-          (λ f. absurd (not-suc-le-zero (rw (q .is) at (rw (first f) at (c .none)))))
+          (λ f. absurd (not-suc-le-zero (rw (q .is) at (rw (part-stops s q r f) at (c .none)))))
           (λ f.
           let z : distance (U s) r ≡ 0 = omega (arith, ltb-false) in
           covered (distance-zero (U s) r (o .u-low) low z) ∙ sym (none-before (s .standing) r z (s .packets)))
         where
-          at-u : unanswered (s .standing) (q .head) ≡ U s
-          at-u = rw (lt-ltb _ _ (q .inside))
-
-          first : ltb 0 (distance (U s) r) ≡ true → ahead (passedBy r (s .standing)) (s .packets) ≡ 0
-          first f = rw (q .is) (rw (at-u, distance-same, q .read, f))
-
           covered : r ≡ U s → ahead (covers (s .standing .settings) r) (s .packets) ≡ 0
           covered f = rw (q .is) (rw (f, lt-ltb (distance (q .head .psn) (U s)) (span (s .standing .settings) (q .head)) (q .inside), q .read))
 

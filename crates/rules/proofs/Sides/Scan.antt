@@ -17,8 +17,7 @@ use Rattle.rules.specs.Message.{isRead, span, unanswered}
 use Rattle.rules.specs.Release.{passedBy, release}
 use Rattle.rules.specs.Order.{_or_, left, right}
 use Rattle.rules.proofs.Sides.InOrder.{RunsLow, InOrder}
-use Rattle.rules.proofs.Sides.Order.{runs-end, unanswered-is, halted, span-pos, Part, whole-or-part, none-passed, none-before}
-use Rattle.psn.proofs.Laws.{distance-same}
+use Rattle.rules.proofs.Sides.Order.{runs-end, unanswered-is, halted, span-pos, Part, whole-or-part, none-passed, none-before, part-stops, part-some}
 
 -- the test of a by-value step: this record stays
 abbrev pub stays : ℕ → Standing → Packet → Bool
@@ -70,19 +69,10 @@ released-is s o b = go (whole-or-part (s .standing .settings) (U s) (N s) (o .u-
     go (right c) =
         rw (stands)
         (by-test (ltb 0 (distance (U s) b))
-        (λ e. rw (first e, some))
+        (λ e. rw (part-stops s c b e, part-some s c))
         (λ e.
         let z : distance (U s) b ≡ 0 = omega (arith, ltb-false) in
         rw (le-ltb _ _ (none-passed (s .standing) b z (s .packets)), none-before (s .standing) b z (s .packets))))
       where
         stands : ahead (stays b (s .standing)) (s .packets) ≡ 0
         stands = rw (c .is) (rw (c .read))
-
-        at-u : unanswered (s .standing) (c .head) ≡ U s
-        at-u = rw (lt-ltb _ _ (c .inside))
-
-        first : ltb 0 (distance (U s) b) ≡ true → ahead (passedBy b (s .standing)) (s .packets) ≡ 0
-        first e = rw (c .is) (rw (at-u, distance-same, c .read, e))
-
-        some : ltb 0 (length (s .packets)) ≡ true
-        some = rw (c .is) (lt-ltb 0 (suc (length (c .tail))) (omega arith))
