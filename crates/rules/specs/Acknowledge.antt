@@ -6,6 +6,7 @@ use lib.Dec.{ltb, leb, eqb}
 use lib.ListN.{length, getD}
 use Rattle.psn.specs.Psn.{distance, next}
 use Rattle.refusal.specs.Choice.{if_then_else_}
+use Rattle.rules.specs.declared.Settings.{Settings}
 use Rattle.rules.specs.declared.Standing.{Standing}
 use Rattle.rules.specs.declared.Answer.the-variants.{Done, Resending, Held, Ended}
 use Rattle.rules.specs.Account.{Side, U, H, updated}
@@ -30,33 +31,25 @@ resending g =
     record { answer = Resending; released = g .released; flushed = 0; standing = backToU (c .retries) (c .rnrs) (c .hold) (g .standing) }
 
 -- "Syndrome top bits 000, ACK: release before R + 1. If stopped, X becomes U, elapsed 0, answer "resending"; else "done"."
-abbrev pub ack : ℕ → Side → Outcome
-ack r s =
-    let g = release (next r) s in
+abbrev pub ack : Release → Outcome
+ack g =
     if g .stopped
     then resending g
     else record { answer = Done; released = g .released; flushed = 0; standing = g .standing }
 
--- "011, NAK codes 0 (sequence), 1 (invalid request), 2 (remote access), all recoverable as in 003: release before R, X becomes U, elapsed 0, "resending"."
-abbrev pub nak : ℕ → Side → Outcome
-nak r s = resending (release r s)
-
 -- "011 code 3 (remote operational): release before R, then end the pair, "ended"."
-abbrev pub endedAfter : ℕ → Side → Outcome
-endedAfter r s =
-    let g = release r s in
-    record { answer = Ended; released = g .released; flushed = length (s .packets) - g .released; standing = endedStanding (g .standing) }
+abbrev pub endedAfter : ℕ → Release → Outcome
+endedAfter held g = record { answer = Ended; released = g .released; flushed = held - g .released; standing = endedStanding (g .standing) }
 
 -- "001, RNR: release before R. With RNR retry set below 7: a count of 0 ends the pair, "ended"; a higher one drops by one. Unless ended, X becomes U,
 -- elapsed 0, hold for the wait of the low five bits (replacing any hold), "held"."
-abbrev pub rnr : ℕ → ℕ → Side → Outcome
-rnr r wait s =
-    let g = release r s in
+abbrev pub rnr : Settings → ℕ → ℕ → Release → Outcome
+rnr s wait held g =
     let c = g .standing .clock in
-    let counts = ltb (s .standing .settings .rnr) 7 in
+    let counts = ltb (s .rnr) 7 in
     let left = if counts then c .rnrs - 1 else c .rnrs in
     if counts && eqb (c .rnrs) 0
-    then endedAfter r s
+    then endedAfter held g
     else record { answer = Held; released = g .released; flushed = 0; standing = backToU (c .retries) left wait (g .standing) }
 
 -- "The thirty-two RNR waits, IB, in units of 10,000 ns, codes 0 to 31"
@@ -69,12 +62,17 @@ waits =
 abbrev pub waitOf : ℕ → ℕ
 waitOf low = 10000 * getD waits low 0
 
--- by the syndrome's top bits; one that is none of these was refused, by 3. "credits (an ACK's low five bits are ignored)"
+-- by the syndrome's top bits; one that is none of these was refused, by 3. "credits (an ACK's low five bits are ignored)". `before b` is the release before b.
+-- "011, NAK codes 0 (sequence), 1 (invalid request), 2 (remote access), all recoverable as in 003: release before R, X becomes U, elapsed 0, "resending"."
+abbrev pub answered : Settings → ℕ → ℕ → ℕ → (ℕ → Release) → Outcome
+answered s r syndrome held before =
+    let low = lowBits syndrome in
+    if eqb (topBits syndrome) 0 then ack (before (next r))
+    else if eqb (topBits syndrome) 1 then rnr s (waitOf low) held (before r)
+    else if leb low 2 then resending (before r)
+    else endedAfter held (before r)
+
 unfoldable pub acknowledge : ℕ → ℕ → Side → Outcome
 acknowledge r syndrome s =
-    let low = lowBits syndrome in
     if not (inside r s) then dropped s
-    else if eqb (topBits syndrome) 0 then ack r s
-    else if eqb (topBits syndrome) 1 then rnr r (waitOf low) s
-    else if leb low 2 then nak r s
-    else endedAfter r s
+    else answered (s .standing .settings) r syndrome (length (s .packets)) (λ b. release b s)

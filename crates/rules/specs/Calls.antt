@@ -18,7 +18,7 @@ use Rattle.rules.specs.Message.{packetsOf}
 use Rattle.rules.specs.Posting.{posted}
 use Rattle.rules.specs.Outcome.{Outcome, departures, completions, messagesOf, opened, closingAll}
 use Rattle.rules.specs.Acknowledge.{acknowledge}
-use Rattle.rules.specs.Response.{placeOf, response}
+use Rattle.rules.specs.Response.{readAt, placeOf, response}
 use Rattle.rules.specs.Timer.{timer}
 use Rattle.rules.specs.Emission.{going, outgoing, emitted, emissions}
 use Rattle.rules.specs.Slots.{Tables, sides, freed, stored, fresh}
@@ -75,9 +75,9 @@ effect (emitting budget b) s =
       buffer = overlaid (emissions (s .standing) (outgoing budget s)) b;
     }
 effect (acknowledging r y b) s = reported (acknowledge r y s) 0 b s
-effect (responding r o l b) s = reported (response r s) (placeIf (response r s .answer) (placeOf r s)) b s
+effect (responding r o l b) s = reported (response r s) (placeIf (response r s .answer) (placeOf (s .standing .settings) r (readAt r s))) b s
 effect (ticking e b) s = reported (timer e s) 0 b s
-effect (closing b) s = reported (closingAll s) 0 b s
+effect (closing b) s = reported (closingAll (length (s .packets))) 0 b s
 
 -- ---- a step: what is said (answer and buffer), and what is next
 

@@ -36,11 +36,13 @@ endsAt s x [] = x
 endsAt s x (p ∷ ps) = endsAt s (ends s p) ps
 
 -- "X moves past them, H to the further of H and X."
+abbrev pub movedTo : ℕ → Standing → Standing
+movedTo x t =
+    let l = t .line in
+    updated (record { u = l .u; x = x; h = further (l .u) (l .h) x; n = l .n }) (t .clock) t
+
 unfoldable pub emitted : ℕ → Side → Side
-emitted budget s =
-    let t = s .standing in
-    let x = endsAt (t .settings) (X s) (outgoing budget s) in
-    record { standing = updated (record { u = U s; x = x; h = further (U s) (H s) x; n = N s }) (t .clock) t; packets = s .packets }
+emitted budget s = record { standing = movedTo (endsAt (s .standing .settings) (X s) (outgoing budget s)) (s .standing); packets = s .packets }
 
 -- ---- the records
 

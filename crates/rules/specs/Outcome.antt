@@ -73,9 +73,9 @@ endedStanding t =
       clock = record { retries = t .clock .retries; rnrs = t .clock .rnrs; elapsed = 0; hold = 0 };
     }
 
--- "Ending or closing a pair flushes all it holds."
-abbrev pub ending : Side → Outcome
-ending s = record { answer = Ended; released = 0; flushed = length (s .packets); standing = endedStanding (s .standing) }
+-- "Ending or closing a pair flushes all it holds": so many packets
+abbrev pub ending : ℕ → Standing → Outcome
+ending held t = record { answer = Ended; released = 0; flushed = held; standing = endedStanding t }
 
-abbrev pub closingAll : Side → Outcome
-closingAll s = record { answer = Done; released = 0; flushed = length (s .packets); standing = noStanding }
+abbrev pub closingAll : ℕ → Outcome
+closingAll held = record { answer = Done; released = 0; flushed = held; standing = noStanding }

@@ -12,7 +12,7 @@ use Rattle.rules.specs.declared.Answer.the-variants.{Done}
 use Rattle.rules.specs.Account.{Side, U, updated, further, noPacket, ahead}
 use Rattle.rules.specs.Message.{pmtu, lengthAt, isRead, span}
 use Rattle.rules.specs.Outcome.{Outcome, dropped}
-use Rattle.rules.specs.Release.{renewed, release}
+use Rattle.rules.specs.Release.{Release, renewed, release}
 use Rattle.rules.specs.Acknowledge.{inside, resending}
 
 -- r is one of the read's PSNs
@@ -23,13 +23,13 @@ covers s r p = isRead p && ltb (distance (p .psn) r) (span s p)
 abbrev pub readAt : ℕ → Side → Packet
 readAt r s = getD (s .packets) (ahead (covers (s .standing .settings) r) (s .packets)) noPacket
 
--- how many of its places are before r's
-abbrev pub placesBefore : ℕ → Side → ℕ
-placesBefore r s = distance (readAt r s .psn) r
+-- how many of a read's places are before r's
+abbrev pub placesBefore : ℕ → Packet → ℕ
+placesBefore r p = distance (p .psn) r
 
 -- r's place is its last
-abbrev pub atLast : ℕ → Side → Bool
-atLast r s = eqb (suc (placesBefore r s)) (span (s .standing .settings) (readAt r s))
+abbrev pub atLast : Settings → ℕ → Packet → Bool
+atLast s r p = eqb (suc (placesBefore r p)) (span s p)
 
 -- two tests that differ
 abbrev pub differ : Bool → Bool → Bool
@@ -37,17 +37,17 @@ differ true b = not b
 differ false b = b
 
 -- 9: "if R is not in a read's PSNs, or the length is not what that place carries, or 15 or 16 is used other than exactly at the last place"
+abbrev pub misfit : Settings → ℕ → ℕ → ℕ → Packet → Bool
+misfit s r opcode len p = not (eqb len (lengthAt (pmtu s) (p .length) (span s p) (placesBefore r p))) || differ (leb 15 opcode) (atLast s r p)
+
 abbrev pub unfit : ℕ → ℕ → ℕ → Side → Bool
 unfit r opcode len s =
     let st = s .standing .settings in
-    let p = readAt r s in
-    eqb (ahead (covers st r) (s .packets)) (length (s .packets))
-    || not (eqb len (lengthAt (pmtu st) (p .length) (span st p) (placesBefore r s)))
-    || differ (leb 15 opcode) (atLast r s)
+    eqb (ahead (covers st r) (s .packets)) (length (s .packets)) || misfit st r opcode len (readAt r s)
 
 -- "the payload's place, offset + k × PMTU for k places before it"
-abbrev pub placeOf : ℕ → Side → ℕ
-placeOf r s = readAt r s .offset + placesBefore r s * pmtu (s .standing .settings)
+abbrev pub placeOf : Settings → ℕ → Packet → ℕ
+placeOf s r p = p .offset + placesBefore r p * pmtu s
 
 -- "U becomes R + 1, counts and elapsed return, X the further of X and U", by distance from the U that the call found
 abbrev pub taken : ℕ → ℕ → Standing → Standing
@@ -56,10 +56,11 @@ taken found a t =
     updated (record { u = a; x = further found (l .x) a; h = l .h; n = l .n }) (renewed (t .settings) (t .clock)) t
 
 -- "Otherwise release before R. If stopped: X becomes U, elapsed 0, "resending". Else U becomes R + 1, .. "done" ..; at the last place the slot is released."
+abbrev pub responded : ℕ → ℕ → Bool → Release → Outcome
+responded found r atEnd g =
+    let last : ℕ = if atEnd then 1 else 0 in
+    if g .stopped then resending g
+    else record { answer = Done; released = g .released + last; flushed = 0; standing = taken found (next r) (g .standing) }
+
 unfoldable pub response : ℕ → Side → Outcome
-response r s =
-    let g = release r s in
-    let last : ℕ = if atLast r s then 1 else 0 in
-    if not (inside r s) then dropped s
-    else if g .stopped then resending g
-    else record { answer = Done; released = g .released + last; flushed = 0; standing = taken (U s) (next r) (g .standing) }
+response r s = if not (inside r s) then dropped s else responded (U s) r (atLast (s .standing .settings) r (readAt r s)) (release r s)

@@ -77,7 +77,7 @@ module _ (card : Card) (a : List Side) (w : Well card a) (p : ℕ) where
   buffer-kept (acknowledging r y b) h = events (acknowledge r y (sideAt a p)) b (h .pair) (omega (arith, ready (h .state))) (h .buffer)
   buffer-kept (responding r o l b) h = events (response r (sideAt a p)) b (h .pair) (omega (arith, ready (h .state))) (h .buffer)
   buffer-kept (ticking e b) h = events (timer e (sideAt a p)) b (h .pair) (omega (arith, ready (h .state))) (h .buffer)
-  buffer-kept (closing b) h = events (closingAll (sideAt a p)) b (h .pair) (omega (arith, eqb-false (sideAt a p .standing .state) 0 (h .state))) (h .buffer)
+  buffer-kept (closing b) h = events (closingAll (length (sideAt a p .packets))) b (h .pair) (omega (arith, eqb-false (sideAt a p .standing .state) 0 (h .state))) (h .buffer)
 
 -- whatever the tables, a call leaves the buffer as long as it was
 pub call-buffer : (card : Card)

@@ -76,4 +76,4 @@ heard-departed (emitting n b) s = refl
 heard-departed (acknowledging r y b) s = heard-outcome (acknowledge r y s) s b
 heard-departed (responding r o l b) s = heard-outcome (response r s) s b
 heard-departed (ticking e b) s = heard-outcome (timer e s) s b
-heard-departed (closing b) s = heard-outcome (closingAll s) s b
+heard-departed (closing b) s = heard-outcome (closingAll (length (s .packets))) s b

@@ -24,7 +24,7 @@ use Rattle.rules.specs.Message.{span, psnsFor, packetsOf, unanswered}
 use Rattle.rules.specs.Posting.{posted}
 use Rattle.rules.specs.Emission.{ends, waiting, going, outgoing, endsAt, emitted}
 use Rattle.rules.specs.Release.{advanced, passedBy, Release, release}
-use Rattle.rules.specs.Acknowledge.{inside, resending, ack, nak, endedAfter, rnr, waitOf, acknowledge}
+use Rattle.rules.specs.Acknowledge.{inside, resending, ack, endedAfter, rnr, waitOf, acknowledge}
 use Rattle.rules.specs.Response.{covers, readAt, atLast, unfit, taken, response}
 use Rattle.rules.specs.Timer.{timeoutOf, timer}
 use Rattle.rules.specs.Slots.{side}
@@ -161,7 +161,7 @@ module _ (k : ℕ) (s : Side) where
 
     -- ---- answers and timers
 
-    ack-turned : (r : ℕ) → ack (plus r k) (turned k s) ≡ turnedOutcome k (ack r s)
+    ack-turned : (r : ℕ) → ack (release (next (plus r k)) (turned k s)) ≡ turnedOutcome k (ack (release (next r) s))
     ack-turned r = rw (next-turned r) (if-turned (turnedOutcome k) (release (next r) s .stopped) refl (λ _. refl) (λ _. refl))
 
     -- a place where some read covers r is inside the list
@@ -175,13 +175,13 @@ module _ (k : ℕ) (s : Side) where
         )
 
     module _ (r : ℕ) (l : r < psns) where
-      nak-turned : nak (plus r k) (turned k s) ≡ turnedOutcome k (nak r s)
+      nak-turned : resending (release (plus r k) (turned k s)) ≡ turnedOutcome k (resending (release r s))
       nak-turned = ap resending (release-turned r l)
 
-      final-turned : endedAfter (plus r k) (turned k s) ≡ turnedOutcome k (endedAfter r s)
+      final-turned : endedAfter (length (turned k s .packets)) (release (plus r k) (turned k s)) ≡ turnedOutcome k (endedAfter (length (s .packets)) (release r s))
       final-turned = rw (release-turned r l, count-turned)
 
-      rnr-turned : (wait : ℕ) → rnr (plus r k) wait (turned k s) ≡ turnedOutcome k (rnr r wait s)
+      rnr-turned : (wait : ℕ) → rnr (s .standing .settings) wait (length (turned k s .packets)) (release (plus r k) (turned k s)) ≡ turnedOutcome k (rnr (s .standing .settings) wait (length (s .packets)) (release r s))
       rnr-turned wait =
           rw (release-turned r l, count-turned)
           (if-turned (turnedOutcome k) (ltb (s .standing .settings .rnr) 7 && eqb (release r s .standing .clock .rnrs) 0) refl (λ _. refl) (λ _. refl))
@@ -201,7 +201,7 @@ module _ (k : ℕ) (s : Side) where
             (ahead-map (turnedPacket k) _ (covers (s .standing .settings) r) (covers-turned k (s .standing .settings) r) (s .packets))
             ∙ getD-map (turnedPacket k) noPacket noPacket (s .packets) _ found
 
-        last-turned : atLast (plus r k) (turned k s) ≡ atLast r s
+        last-turned : atLast (s .standing .settings) (plus r k) (readAt (plus r k) (turned k s)) ≡ atLast (s .standing .settings) r (readAt r s)
         last-turned = rw (read-turned, distance-turned k (readAt r s .psn) r)
 
       same-place : ahead (covers (s .standing .settings) (plus r k)) (turned k s .packets) ≡ ahead (covers (s .standing .settings) r) (s .packets)
@@ -257,7 +257,7 @@ turns-round k s low =
       emission = emitted-turned k s;
       acknowledgement = λ r syndrome l. acknowledge-turned k s low r l syndrome;
       read-response =
-          λ r opcode len l fits. response-turned k s low r l (λ h. found-at k s low r (or-left _ _ (or-left _ _ (rw h at fits))));
+          λ r opcode len l fits. response-turned k s low r l (λ h. found-at k s low r (or-left _ _ (rw h at fits)));
       timer-step = timer-turned k s low;
       reach = distance-turned k (U s) (N s);
       unfitting = λ r opcode len l. ap₂ (λ (a b : Bool). a && b) (inside-turned k s r) (unfit-turned k s low r l opcode len);

@@ -69,7 +69,7 @@ module _ (s : Side) (ready : s .standing .state ≡ 1) (o : InOrder s) where
           fate = left (release-keeps b .0, rw add-zero (ordered-resent _ _ _ _ _ (ordered-release s o b l e)));
         }
 
-    fine-ack : Fine s (ack r s)
+    fine-ack : Fine s (ack (release (plus r 1) s))
     fine-ack =
         if-case (Fine s) (release (plus r 1) s .stopped)
         (λ e. again (plus r 1) (omega arith) next-low Resending _ _)
@@ -78,10 +78,10 @@ module _ (s : Side) (ready : s .standing .state ≡ 1) (o : InOrder s) where
           fate = left (release-keeps (plus r 1) .0, rw add-zero (ordered-release s o (plus r 1) (omega arith) next-low));
         })
 
-    fine-end : Fine s (endedAfter r s)
+    fine-end : Fine s (endedAfter (length (s .packets)) (release r s))
     fine-end = record { settings = release-keeps r .1; fate = right (refl, omega arith) }
 
-    fine-rnr : (wait : ℕ) → Fine s (rnr r wait s)
+    fine-rnr : (wait : ℕ) → Fine s (rnr (s .standing .settings) wait (length (s .packets)) (release r s))
     fine-rnr wait =
         if-case (Fine s) (ltb (s .standing .settings .rnr) 7 && eqb (release r s .standing .clock .rnrs) 0)
         (λ e. fine-end)

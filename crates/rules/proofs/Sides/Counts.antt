@@ -21,7 +21,7 @@ use Rattle.rules.specs.Ranges.{topBits, lowBits}
 use Rattle.rules.specs.Outcome.{Outcome, dropped, ending}
 use Rattle.rules.specs.Release.{Release, release, advanced, passedBy}
 use Rattle.rules.specs.Acknowledge.{inside, backToU, resending, endedAfter, waitOf, acknowledge}
-use Rattle.rules.specs.Response.{atLast, taken, response}
+use Rattle.rules.specs.Response.{readAt, atLast, taken, response}
 use Rattle.rules.specs.Timer.{ticked, retried, timeoutOf, timer}
 use Rattle.rules.specs.Order.{_or_, left, right}
 use Rattle.rules.specs.Requests.{wordOf}
@@ -88,7 +88,7 @@ module _ (P : Outcome → Type 0) (s : Side) where
   -- what an acknowledgement may come to
   by-acknowledge : (r y : ℕ) → P (dropped s) → ((b : ℕ) → P (delivered (release b s))) → ((b : ℕ) → P (resending (release b s)))
       → ((wait : ℕ) → counted s && eqb (release r s .standing .clock .rnrs) 0 ≡ false → P (delayed r wait s))
-      → P (endedAfter r s) → P (acknowledge r y s)
+      → P (endedAfter (length (s .packets)) (release r s)) → P (acknowledge r y s)
   unfolding acknowledge
   by-acknowledge r y drop done again held end =
       if-case P (not (inside r s)) (λ _. drop) (λ _.
@@ -101,11 +101,11 @@ module _ (P : Outcome → Type 0) (s : Side) where
   by-response : (r : ℕ) → P (dropped s) → P (resending (release r s)) → ((last : ℕ) → P (answered r last s)) → P (response r s)
   unfolding response
   by-response r drop again done =
-      if-case P (not (inside r s)) (λ _. drop) (λ _. if-case P (release r s .stopped) (λ _. again) (λ _. done (if atLast r s then 1 else 0)))
+      if-case P (not (inside r s)) (λ _. drop) (λ _. if-case P (release r s .stopped) (λ _. again) (λ _. done (if atLast (s .standing .settings) r (readAt r s) then 1 else 0)))
 
   -- a timer step
   by-timer : (e : ℕ) → ((elapsed hold : ℕ) → P (ticked Resumed elapsed hold (s .standing))) → ((elapsed hold : ℕ) → P (ticked Idle elapsed hold (s .standing)))
-      → P (ending s) → (s .standing .clock .retries ≢ 0 → P (retried (s .standing))) → P (timer e s)
+      → P (ending (length (s .packets)) (s .standing)) → (s .standing .clock .retries ≢ 0 → P (retried (s .standing))) → P (timer e s)
   unfolding timer
   by-timer e resumed idle end again =
       if-case P (ltb 0 (s .standing .clock .hold))

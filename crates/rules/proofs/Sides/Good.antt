@@ -252,7 +252,7 @@ module _ (card : Card) where
         good-after (response r s)
         (fine-response s ready (g .ordered ready) r low (λ h.
         let u : unfit r opcode len s ≡ false = rw h at fits in
-        let one = covered (or-left _ _ (or-left _ _ u)) in
+        let one = covered (or-left _ _ u) in
         (one, span-small (s .standing .settings) (in-range (f .settings) .pmtu-low) (readAt r s) (each-at Short (s .packets) _ noPacket (held-short (s .standing .settings) (g .messages)) one))))
         (timely-response card s ready f (g .ordered ready) (g .timed ready) r low)
       where

@@ -108,13 +108,13 @@ module _ (card : Card) (s : Side) (ready : s .standing .state ≡ 1) (f : Bounde
         let c = ltb-true (distance (U s) r) (distance (U s) (H s)) h in
         omega (arith, c, o .u-h-n, o .near, distance-step (U s) r 1 (omega (arith, c, o .u-h-n, o .near)), ap (distance (U s)) e, distance-same (U s)))
 
-    timely-ack : Timely st (ack r s .standing)
+    timely-ack : Timely st (ack (release (plus r 1) s) .standing)
     timely-ack =
         if-case (λ (x : Outcome). Timely st (x .standing)) (release (plus r 1) s .stopped)
         (λ _. as-was (plus r 1))
         (λ e. rw (clear (plus r 1) s e .standing) (rw moved (calm (alive _ refl) (omega arith) (omega arith) (w .hold) refl)))
 
-    timely-rnr : (wait : ℕ) → wait ≤ longestHold → Timely st (rnr r wait s .standing)
+    timely-rnr : (wait : ℕ) → wait ≤ longestHold → Timely st (rnr st wait (length (s .packets)) (release r s) .standing)
     timely-rnr wait l =
         if-case (λ (x : Outcome). Timely st (x .standing)) (ltb (st .rnr) 7 && eqb (release r s .standing .clock .rnrs) 0)
         (λ _. finished r)
