@@ -11,8 +11,10 @@ use Rattle.rules.specs.declared.Standing.{Standing}
 use Rattle.rules.specs.declared.Answer.the-variants.{Done, Resending, Held, Ended}
 use Rattle.rules.specs.Account.{Side, U, H, updated}
 use Rattle.rules.specs.Ranges.{topBits, lowBits}
-use Rattle.rules.specs.Outcome.{Outcome, dropped, endedStanding}
-use Rattle.rules.specs.Release.{Release, release}
+use Rattle.rules.specs.declared.Outcome.{Outcome}
+use Rattle.rules.specs.Outcome.{dropped, endedStanding}
+use Rattle.rules.specs.declared.Release.{Release}
+use Rattle.rules.specs.Release.{release}
 
 -- "An event for PSN R .. answers "dropped", nothing changed, unless the distance U to R is less than U to H."
 abbrev pub inside : ℕ → Side → Bool

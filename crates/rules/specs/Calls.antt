@@ -16,7 +16,8 @@ use Rattle.rules.specs.Card.{Card}
 use Rattle.rules.specs.Account.{Side, noSide, N}
 use Rattle.rules.specs.Message.{packetsOf}
 use Rattle.rules.specs.Posting.{posted}
-use Rattle.rules.specs.Outcome.{Outcome, departures, completions, messagesOf, opened, closingAll}
+use Rattle.rules.specs.declared.Outcome.{Outcome}
+use Rattle.rules.specs.Outcome.{departures, completions, messagesOf, opened, closingAll}
 use Rattle.rules.specs.Acknowledge.{acknowledge}
 use Rattle.rules.specs.Response.{readAt, placeOf, response}
 use Rattle.rules.specs.Timer.{timer}

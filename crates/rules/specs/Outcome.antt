@@ -7,16 +7,10 @@ use Rattle.rules.specs.declared.Packet.{Packet}
 use Rattle.rules.specs.declared.Settings.{Settings}
 use Rattle.rules.specs.declared.Standing.{Standing}
 use Rattle.rules.specs.declared.Answer.{Answer}
+use Rattle.rules.specs.declared.Outcome.{Outcome}
 use Rattle.rules.specs.declared.Answer.the-variants.{Dropped, Done, Ended}
 use Rattle.rules.specs.Account.{Side, ready, ended, noStanding}
 use Rattle.rules.specs.Message.{isLast}
-
--- its answer, how many packets are released, how many are flushed behind them, and how the pair stands then
-pub record Outcome : Type 0 where
-  pub answer : Answer
-  pub released : ℕ
-  pub flushed : ℕ
-  pub standing : Standing
 
 -- no packet leaves
 abbrev pub staying : Answer → Standing → Outcome

@@ -9,6 +9,7 @@ use Rattle.rules.specs.declared.Packet.{Packet}
 use Rattle.rules.specs.declared.Settings.{Settings}
 use Rattle.rules.specs.declared.Clock.{Clock}
 use Rattle.rules.specs.declared.Standing.{Standing}
+use Rattle.rules.specs.declared.Release.{Release}
 use Rattle.rules.specs.Account.{Side, updated, further, noPacket, ahead}
 use Rattle.rules.specs.Message.{isRead, unanswered}
 
@@ -29,11 +30,6 @@ advanced a t =
 -- a read whose first unanswered PSN is before B
 abbrev pub passedBy : ℕ → Standing → Packet → Bool
 passedBy b t p = isRead p && before (t .line .u) (unanswered t p) b
-
-pub record Release : Type 0 where
-  pub stopped : Bool
-  pub released : ℕ
-  pub standing : Standing
 
 -- "if some read's first unanswered PSN is before B, release all records ahead of the first such read; U becomes that PSN ("stopped").
 -- Otherwise release all records before B and U becomes B."

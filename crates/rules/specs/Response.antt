@@ -11,8 +11,10 @@ use Rattle.rules.specs.declared.Standing.{Standing}
 use Rattle.rules.specs.declared.Answer.the-variants.{Done}
 use Rattle.rules.specs.Account.{Side, U, updated, further, noPacket, ahead}
 use Rattle.rules.specs.Message.{pmtu, lengthAt, isRead, span}
-use Rattle.rules.specs.Outcome.{Outcome, dropped}
-use Rattle.rules.specs.Release.{Release, renewed, release}
+use Rattle.rules.specs.declared.Outcome.{Outcome}
+use Rattle.rules.specs.Outcome.{dropped}
+use Rattle.rules.specs.declared.Release.{Release}
+use Rattle.rules.specs.Release.{renewed, release}
 use Rattle.rules.specs.Acknowledge.{inside, resending}
 
 -- r is one of the read's PSNs

@@ -9,7 +9,8 @@ use Rattle.rules.specs.declared.Standing.{Standing}
 use Rattle.rules.specs.declared.Answer.{Answer}
 use Rattle.rules.specs.declared.Answer.the-variants.{Resending, Resumed, Idle}
 use Rattle.rules.specs.Account.{Side, updated}
-use Rattle.rules.specs.Outcome.{Outcome, staying, ending}
+use Rattle.rules.specs.declared.Outcome.{Outcome}
+use Rattle.rules.specs.Outcome.{staying, ending}
 use Rattle.rules.specs.Acknowledge.{backToU}
 
 -- "4,096 × 2^code ns"

@@ -15,7 +15,8 @@ use Rattle.wire.proofs.Writing.{bytes-whole}
 use Rattle.rules.specs.Card.{Card}
 use Rattle.rules.specs.Account.{Side}
 use Rattle.rules.specs.Emission.{waiting, going, outgoing, sent, headerOf, recordBytes, emission, emissions}
-use Rattle.rules.specs.Outcome.{Outcome, departures, completions, closingAll}
+use Rattle.rules.specs.declared.Outcome.{Outcome}
+use Rattle.rules.specs.Outcome.{departures, completions, closingAll}
 use Rattle.rules.specs.Acknowledge.{acknowledge}
 use Rattle.rules.specs.Response.{response}
 use Rattle.rules.specs.Timer.{timer}

@@ -9,7 +9,8 @@ use Rattle.refusal.proofs.Cases.{by-test, if-case}
 use Rattle.rules.specs.declared.Packet.{Packet}
 use Rattle.rules.specs.Account.{Side}
 use Rattle.rules.specs.Message.{isLast}
-use Rattle.rules.specs.Outcome.{Outcome, Departure, leftWith, departures, completions, messagesOf, closingAll}
+use Rattle.rules.specs.declared.Outcome.{Outcome}
+use Rattle.rules.specs.Outcome.{Departure, leftWith, departures, completions, messagesOf, closingAll}
 use Rattle.rules.specs.Acknowledge.{acknowledge}
 use Rattle.rules.specs.Response.{response}
 use Rattle.rules.specs.Timer.{timer}

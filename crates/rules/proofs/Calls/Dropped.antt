@@ -14,7 +14,8 @@ use Rattle.psn.specs.Psn.{plus}
 use Rattle.rules.specs.declared.Reply.the-variants.{Answered}
 use Rattle.rules.specs.Card.{Card}
 use Rattle.rules.specs.Account.{Side}
-use Rattle.rules.specs.Outcome.{Outcome, dropped}
+use Rattle.rules.specs.declared.Outcome.{Outcome}
+use Rattle.rules.specs.Outcome.{dropped}
 use Rattle.rules.specs.Release.{release}
 use Rattle.rules.specs.Acknowledge.{inside, acknowledge}
 use Rattle.rules.specs.Response.{response}

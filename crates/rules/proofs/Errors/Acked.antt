@@ -19,7 +19,7 @@ use Rattle.rules.specs.Card.{Card}
 use Rattle.rules.specs.Account.{Side, U, H}
 use Rattle.rules.specs.Message.{isRead, unanswered}
 use Rattle.rules.specs.Ranges.{topBits, lowBits}
-use Rattle.rules.specs.Outcome.{Outcome}
+use Rattle.rules.specs.declared.Outcome.{Outcome}
 use Rattle.rules.specs.Release.{release}
 use Rattle.rules.specs.Acknowledge.{inside, acknowledge}
 use Rattle.rules.specs.Slots.{Tables, slotAt, free, queue, times, sideOf, side, sides, freed}

@@ -17,8 +17,9 @@ use Rattle.rules.specs.declared.Answer.the-variants.{Resending, Held}
 use Rattle.rules.specs.Card.{Card}
 use Rattle.rules.specs.Account.{Side, U, ahead}
 use Rattle.rules.specs.Ranges.{topBits, lowBits, badSyndrome}
-use Rattle.rules.specs.Outcome.{Outcome}
-use Rattle.rules.specs.Release.{Release, release, passedBy, advanced}
+use Rattle.rules.specs.declared.Outcome.{Outcome}
+use Rattle.rules.specs.declared.Release.{Release}
+use Rattle.rules.specs.Release.{release, passedBy, advanced}
 use Rattle.rules.specs.Acknowledge.{inside, backToU, waitOf, acknowledge}
 use Rattle.rules.specs.Slots.{Tables, side, sides}
 use Rattle.rules.specs.Order.{_or_, left, right}

@@ -22,7 +22,7 @@ use Rattle.rules.specs.Card.{Card}
 use Rattle.rules.specs.Account.{Side, U, H, N, noPacket, ahead}
 use Rattle.rules.specs.Message.{isRead, span, unanswered}
 use Rattle.rules.specs.Ranges.{topBits, lowBits, badPsn}
-use Rattle.rules.specs.Outcome.{Outcome}
+use Rattle.rules.specs.declared.Outcome.{Outcome}
 use Rattle.rules.specs.Release.{passedBy, advanced, release}
 use Rattle.rules.specs.Acknowledge.{inside, acknowledge}
 use Rattle.rules.specs.Slots.{Tables, slotAt, queue, times, sideOf, side, sides, freed}

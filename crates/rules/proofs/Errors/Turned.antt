@@ -23,7 +23,8 @@ use Rattle.rules.specs.Account.{Side, U, X, H, N, updated, noPacket, ahe
 use Rattle.rules.specs.Message.{span, psnsFor, packetsOf, unanswered}
 use Rattle.rules.specs.Posting.{posted}
 use Rattle.rules.specs.Emission.{ends, waiting, going, outgoing, endsAt, emitted}
-use Rattle.rules.specs.Release.{advanced, passedBy, Release, release}
+use Rattle.rules.specs.declared.Release.{Release}
+use Rattle.rules.specs.Release.{advanced, passedBy, release}
 use Rattle.rules.specs.Acknowledge.{inside, resending, ack, endedAfter, rnr, waitOf, acknowledge}
 use Rattle.rules.specs.Response.{covers, readAt, atLast, unfit, taken, response}
 use Rattle.rules.specs.Timer.{timeoutOf, timer}

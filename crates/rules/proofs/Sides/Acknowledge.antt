@@ -15,8 +15,9 @@ use Rattle.rules.specs.declared.Answer.{Answer}
 use Rattle.rules.specs.declared.Answer.the-variants.{Resending, Held}
 use Rattle.psn.specs.Psn.{psns, distance, plus}
 use Rattle.rules.specs.Account.{Side, U, H, ahead}
-use Rattle.rules.specs.Outcome.{Outcome}
-use Rattle.rules.specs.Release.{passedBy, release, Release}
+use Rattle.rules.specs.declared.Outcome.{Outcome}
+use Rattle.rules.specs.declared.Release.{Release}
+use Rattle.rules.specs.Release.{passedBy, release}
 use Rattle.rules.specs.Acknowledge.{backToU, inside, ack, endedAfter, rnr, acknowledge}
 use Rattle.rules.specs.Order.{_or_, left, right}
 use Rattle.rules.proofs.Sides.After.{after}

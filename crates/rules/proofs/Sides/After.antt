@@ -2,7 +2,7 @@
 use Prim.Native.Nat.{ℕ, _+_}
 use lib.ListN.{drop}
 use Rattle.rules.specs.Account.{Side}
-use Rattle.rules.specs.Outcome.{Outcome}
+use Rattle.rules.specs.declared.Outcome.{Outcome}
 
 abbrev pub leaving : Outcome → ℕ
 leaving o = o .released + o .flushed

@@ -18,8 +18,10 @@ use Rattle.rules.specs.declared.Answer.{Answer}
 use Rattle.rules.specs.declared.Answer.the-variants.{Done, Resending, Held, Resumed, Idle, Ended}
 use Rattle.rules.specs.Account.{Side, U, H, N, ended, ahead}
 use Rattle.rules.specs.Ranges.{topBits, lowBits}
-use Rattle.rules.specs.Outcome.{Outcome, dropped, ending}
-use Rattle.rules.specs.Release.{Release, release, advanced, passedBy}
+use Rattle.rules.specs.declared.Outcome.{Outcome}
+use Rattle.rules.specs.Outcome.{dropped, ending}
+use Rattle.rules.specs.declared.Release.{Release}
+use Rattle.rules.specs.Release.{release, advanced, passedBy}
 use Rattle.rules.specs.Acknowledge.{inside, backToU, resending, endedAfter, waitOf, acknowledge}
 use Rattle.rules.specs.Response.{readAt, atLast, taken, response}
 use Rattle.rules.specs.Timer.{ticked, retried, timeoutOf, timer}

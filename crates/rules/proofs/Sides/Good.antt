@@ -22,7 +22,8 @@ use Rattle.rules.specs.Message.{isRead, span, pmtu, packetsFor, from, pa
 use Rattle.rules.specs.Ranges.{badSettings}
 use Rattle.rules.specs.Posting.{posted}
 use Rattle.rules.specs.Emission.{emitted}
-use Rattle.rules.specs.Outcome.{Outcome, opened}
+use Rattle.rules.specs.declared.Outcome.{Outcome}
+use Rattle.rules.specs.Outcome.{opened}
 use Rattle.rules.specs.Acknowledge.{inside, acknowledge}
 use Rattle.rules.specs.Response.{covers, readAt, unfit, response}
 use Rattle.rules.specs.Timer.{timer}

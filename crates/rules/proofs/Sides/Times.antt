@@ -15,8 +15,10 @@ use Rattle.rules.specs.declared.Standing.{Standing}
 use Rattle.psn.specs.Psn.{psns, distance, plus}
 use Rattle.rules.specs.Card.{Card}
 use Rattle.rules.specs.Account.{Side, U, H, N, ahead}
-use Rattle.rules.specs.Outcome.{Outcome, endedStanding}
-use Rattle.rules.specs.Release.{release, Release, passedBy, advanced}
+use Rattle.rules.specs.declared.Outcome.{Outcome}
+use Rattle.rules.specs.Outcome.{endedStanding}
+use Rattle.rules.specs.declared.Release.{Release}
+use Rattle.rules.specs.Release.{release, passedBy, advanced}
 use Rattle.rules.specs.Acknowledge.{inside, backToU, ack, rnr, waits, acknowledge}
 use Rattle.rules.specs.Response.{response}
 use Rattle.rules.specs.Timer.{timer, timeoutOf}

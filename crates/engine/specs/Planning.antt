@@ -1,0 +1,107 @@
+-- What a call is to do: nothing, where it is refused; else what the rules say, as an answer, the pair's next standing and a walk.
+use mathlib.Core.Bool.{false}
+use Prim.Native.Nat.{ℕ, _+_, _%_, _^_, min}
+use lib.Dec.{ltb, eqb}
+use Rattle.refusal.specs.Choice.{if_then_else_}
+use Rattle.rules.specs.declared.Answer.the-variants.{Done}
+use Rattle.rules.specs.declared.Ends.{Ends}
+use Rattle.rules.specs.declared.Outcome.{Outcome}
+use Rattle.rules.specs.declared.Pair.{Pair}
+use Rattle.rules.specs.declared.Post.{Post}
+use Rattle.rules.specs.declared.Standing.{Standing}
+use Rattle.rules.specs.Message.{slotsFor}
+use Rattle.rules.specs.Posting.{raised}
+use Rattle.rules.specs.Outcome.{opened, closingAll, staying}
+use Rattle.rules.specs.Response.{placeOf}
+use Rattle.rules.specs.Timer.{timed}
+use Rattle.rules.specs.Calls.{placeIf}
+use Rattle.audit.specs.declared.Audited.{Audited}
+use Rattle.message.specs.Capped.{capped, tidy}
+use Rattle.engine.specs.declared.Ask.{Ask}
+use Rattle.engine.specs.declared.Ask.the-variants as ask
+use Rattle.engine.specs.declared.Found.{Found}
+use Rattle.engine.specs.declared.Scan.{Scan}
+use Rattle.engine.specs.declared.Moving.{Moving}
+use Rattle.engine.specs.declared.Leaving.{Leaving}
+use Rattle.engine.specs.declared.Joining.{Joining}
+use Rattle.engine.specs.declared.Emitting.{Emitting}
+use Rattle.engine.specs.declared.Told.{Told}
+use Rattle.engine.specs.declared.Told.the-variants.{Refused, Answered, First, Count}
+use Rattle.engine.specs.declared.Plan.{Plan}
+use Rattle.engine.specs.Deciding.{heldBy, acknowledged, respondedTo}
+use Rattle.engine.specs.Refusing.{refusalOf}
+
+-- ---- the walks
+
+-- so many slots of the pair's front, to the free queue's end
+abbrev pub toFree : Pair → Ends → ℕ → ℕ → Leaving
+toFree p e released flushed =
+    record {
+      moving = record { left = released + flushed; at = p .queue .first; first = e .first; last = e .last };
+      released = released;
+      messages = 0;
+    }
+
+-- so many slots of the free queue's front, to the pair's end
+abbrev pub toPair : Pair → Ends → ℕ → Post → Joining
+toPair p e k m =
+    record {
+      moving = record { left = k; at = e .first; first = p .queue .first; last = p .queue .last };
+      total = k;
+      settings = p .standing .settings;
+      post = m;
+      first = p .standing .line .n;
+    }
+
+abbrev pub noPost : Post
+noPost = record { kind = 0; immediate = false; fenced = false; ticket = 0; offset = 0; length = 0; address = 0; key = 0; value = 0 }
+
+-- so many packets, from the one found on
+abbrev pub outward : Pair → ℕ → ℕ → Emitting
+outward p k at = record { left = k; total = k; at = at; x = p .standing .line .x; standing = p .standing }
+
+-- ---- the plans
+
+abbrev pub planned : Told → Standing → Leaving → Joining → Emitting → Plan
+planned told t leaving joining emitting = record { told = told; standing = t; leaving = leaving; joining = joining; emitting = emitting }
+
+-- no walk has a step
+abbrev pub resting : Pair → Ends → Told → Standing → Plan
+resting p e told t = planned told t (toFree p e 0 0) (toPair p e 0 noPost) (outward p 0 0)
+
+-- what an event, a timer step or a close comes to; its place is a number of 32 bits
+abbrev pub leavingPlan : Pair → Ends → Outcome → ℕ → Plan
+leavingPlan p e o place =
+    planned (Answered (o .answer) (place % 2 ^ 32)) (o .standing) (toFree p e (o .released) (o .flushed)) (toPair p e 0 noPost) (outward p 0 0)
+
+abbrev pub postPlan : Pair → Ends → Post → Plan
+postPlan p e m =
+    let t = tidy (p .standing) in
+    planned (First (t .line .n)) (raised m t) (toFree p e 0 0) (toPair p e (slotsFor (t .settings) m) m) (outward p 0 0)
+
+-- "the smaller of the budget and the records ending after X; a held pair writes 0"
+abbrev pub goingOf : ℕ → Standing → Found → ℕ
+goingOf budget t f = if ltb 0 (t .clock .hold) then 0 else min budget (f .left)
+
+abbrev pub emitPlan : Pair → Ends → ℕ → Found → Plan
+emitPlan p e budget f =
+    let t = tidy (p .standing) in
+    planned Count t (toFree p e 0 0) (toPair p e 0 noPost) (outward p (goingOf budget t f) (f .slot))
+
+-- a request that is not refused
+abbrev pub acceptedPlan : Pair → Ends → Scan → Ask → Plan
+acceptedPlan p e c (ask.Open settings first) = resting p e (Answered Done 0) (opened settings first)
+acceptedPlan p e c (ask.Post m) = postPlan p e m
+acceptedPlan p e c (ask.Emit budget) = emitPlan p e budget (c .main .found)
+acceptedPlan p e c (ask.Acknowledge r syndrome) = leavingPlan p e (acknowledged r syndrome (heldBy p) (c .main .found) (tidy (p .standing))) 0
+acceptedPlan p e c (ask.Respond r opcode len) =
+    let t = tidy (p .standing) in
+    let o = respondedTo r (heldBy p) (c .main .found) (c .read .found .packet) t in
+    leavingPlan p e o (placeIf (o .answer) (placeOf (t .settings) r (c .read .found .packet)))
+acceptedPlan p e c (ask.Tick elapsed) = leavingPlan p e (timed elapsed (heldBy p) (tidy (p .standing))) 0
+acceptedPlan p e c ask.Close = leavingPlan p e (closingAll (heldBy p)) 0
+
+unfoldable pub planOf : Audited → ℕ → Pair → Ends → Scan → Ask → ℕ → Plan
+planOf v at p e c ask room =
+    let n = refusalOf v at p c ask room in
+    if eqb n 0 then acceptedPlan p e c ask else resting p e (Refused n) (p .standing)
