@@ -14,10 +14,10 @@ use Rattle.rules.specs.declared.Settings.{Settings}
 use Rattle.rules.specs.declared.Slot.{Slot}
 use Rattle.rules.specs.Card.{small}
 use Rattle.rules.specs.Message.{isLast}
-use Rattle.rules.specs.Emission.{ends, sent, headerOf, recordBytes}
+use Rattle.rules.specs.Emission.{ends, headerOf, recordBytes}
 use Rattle.rules.specs.Slots.{slotAt, relinked}
 use Rattle.message.specs.Capped.{capped, tidy, cut}
-use Rattle.message.specs.Places.{placeAt}
+use Rattle.message.specs.Places.{placeAt, sentBy}
 use Rattle.audit.specs.Loop.{loop}
 use Rattle.engine.specs.declared.Moving.{Moving}
 use Rattle.engine.specs.declared.Leaving.{Leaving}
@@ -119,7 +119,7 @@ placed at new old = if leb (at + length new) (length old) then take at old ++ ne
 
 abbrev pub recorded : List ℕ → Emitting → Slot → List ℕ
 recorded out w i =
-    placed (recordBytes * (w .total - w .left)) (recordOf (capped (w .standing .settings)) (cut (sent (tidy (w .standing)) (i .packet)))) out
+    placed (recordBytes * (w .total - w .left)) (recordOf (capped (w .standing .settings)) (sentBy (tidy (w .standing)) (i .packet))) out
 
 pub record Emitted : Type 0 where
   pub work : Emitting

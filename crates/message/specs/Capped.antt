@@ -1,4 +1,4 @@
--- Numbers that code can hold whatever a host lends. On tables that pass the audit nothing is changed (`capped-same`, `tidy-same`, `cut-same`).
+-- Numbers that code can hold whatever a host lends. On tables that pass the audit nothing is changed (`capped-same`, `tidy-same`, `place-fits`, `sent-fits`).
 use Prim.Native.Nat.{ℕ, _%_, _^_, min}
 use Rattle.rules.specs.declared.Packet.{Packet}
 use Rattle.rules.specs.declared.Settings.{Settings}
@@ -30,7 +30,7 @@ cut p =
       opcode = p .opcode % 2 ^ 8;
       offset = p .offset % 2 ^ 32;
       length = p .length;
-      address = p .address % 2 ^ 64;
+      address = p .address;
       key = p .key;
       total = p .total;
       value = p .value;

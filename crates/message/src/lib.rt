@@ -1,4 +1,46 @@
 // A message's sizes, packets and ranges, by value: document 01's split and its ranges for 3, computed. Every function takes any numbers.
+mod opcodes;
+mod packets;
+mod places;
+mod ranges;
+mod sizes;
+mod tests;
+
+pub use opcodes::carries;
+pub use opcodes::has_immediate;
+pub use opcodes::has_reth;
+pub use opcodes::is_last;
+pub use opcodes::opcode_at;
+pub use packets::READ_REQUEST;
+pub use packets::after_x;
+pub use packets::covers;
+pub use packets::ends;
+pub use packets::ends_message;
+pub use packets::is_read;
+pub use packets::passed_by;
+pub use packets::span;
+pub use packets::stays;
+pub use packets::unanswered;
+pub use places::packet_at;
+pub use places::sent;
+pub use ranges::bad_budget;
+pub use ranges::bad_elapsed;
+pub use ranges::bad_post;
+pub use ranges::bad_psn;
+pub use ranges::bad_response;
+pub use ranges::bad_settings;
+pub use ranges::bad_syndrome;
+pub use ranges::is_inside;
+pub use ranges::over_ceiling;
+pub use sizes::asks_read;
+pub use sizes::length_at;
+pub use sizes::mtu;
+pub use sizes::packets_for;
+pub use sizes::psns_for;
+pub use sizes::slots_for;
+pub use sizes::timeout;
+pub use tests::both;
+pub use tests::either;
 
 // The card's sizes: the definitions' `small`.
 pub struct Card;

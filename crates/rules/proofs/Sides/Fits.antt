@@ -131,13 +131,13 @@ held-fit s = remaining-each s Fits (packets-fit s)
 
 -- ---- a place inside a read: its offset and address fit
 
-pub place-fits : (s : Settings) (p : Packet) → Fits p → isRead p ≡ true → p .address < 2 ^ 64 → (k : ℕ) → k < span s p
-    → (p .offset + k * pmtu s < 2 ^ 32) × (p .address + k * pmtu s < 2 ^ 64) × (k * pmtu s ≤ p .total)
-place-fits s p f e low k h = by (ahead-of (pmtu s) (p .length) k (pow-pos (7 + s .pmtu)) (rw e at h))
+pub place-fits : (s : Settings) (p : Packet) → Fits p → isRead p ≡ true → (k : ℕ) → k < span s p
+    → (p .offset + k * pmtu s < 2 ^ 32) × (0 < k → p .address + k * pmtu s < 2 ^ 64) × (k * pmtu s ≤ p .total)
+place-fits s p f e k h = by (ahead-of (pmtu s) (p .length) k (pow-pos (7 + s .pmtu)) (rw e at h))
   where
-    by : (k * pmtu s < p .length) or ((k ≡ 0) × (p .length ≡ 0)) → (p .offset + k * pmtu s < 2 ^ 32) × (p .address + k * pmtu s < 2 ^ 64) × (k * pmtu s ≤ p .total)
-    by (left x) = (omega (arith, f .reach e), omega (arith, f .far e (omega arith)), omega (arith, f .all e))
-    by (right x) = rw (x .0) (omega (arith, f .offset), omega arith, omega arith)
+    by : (k * pmtu s < p .length) or ((k ≡ 0) × (p .length ≡ 0)) → (p .offset + k * pmtu s < 2 ^ 32) × (0 < k → p .address + k * pmtu s < 2 ^ 64) × (k * pmtu s ≤ p .total)
+    by (left x) = (omega (arith, f .reach e), (λ _. omega (arith, f .far e (omega arith))), omega (arith, f .all e))
+    by (right x) = (rw (x .0) (omega (arith, f .offset)), (λ more. absurd (omega (arith, x .0))), rw (x .0) (omega arith))
 
 -- the place that an emission starts from is inside the read
 pub sent-inside : (t : Standing) (p : Packet) → distance (p .psn) (unanswered t p) < span (t .settings) p

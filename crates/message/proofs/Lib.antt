@@ -1,0 +1,4 @@
+pub mod Cuts
+pub mod Fitting
+pub mod Numbers
+pub mod Rows

@@ -1,0 +1,63 @@
+-- `sent` meets its contract: the read's rest, or the packet with its opcode cut.
+use mathlib.Core.Path.{_≡_, sym, _∙_}
+use Prim.Native.Nat.{_%_, _^_}
+use native.Mathlib.Omega.{arith}
+use borrow.Author.Needs.{needs}
+use Rattle.message.specs.Capped.{cut}
+use Rattle.message.proofs.places.sent.Statement.{statement}
+use Rattle.message.proofs.places.sent.Tie as tie
+
+is-read-requires : tie.Need-is-read-requires
+is-read-requires c κs = search needs
+
+answered-requires : tie.Need-answered-requires
+answered-requires c κs = search needs
+
+unanswered-requires : tie.Need-unanswered-requires
+unanswered-requires c κs = search needs
+
+cast-offset-at : tie.Need-cast-offset-at
+cast-offset-at c = search needs
+
+offset-at-requires : tie.Need-offset-at-requires
+offset-at-requires c κs = search needs
+
+address-at-requires : tie.Need-address-at-requires
+address-at-requires c κs = search needs
+
+less-requires : tie.Need-less-requires
+less-requires c κs = search needs
+
+returns : tie.Need-returns
+unfolding cut
+returns c =
+    simp (
+      sym (c .before .before .before .before .before .before .before .is-read .ensures) ∙ c .before .before .before .before .before .before .if1 .taken,
+      c .less .ensures,
+      c .before .address-at .ensures,
+      c .before .before .offset-at .ensures,
+      c .before .before .before .before .unanswered .ensures,
+      c .before .before .before .before .before .answered .ensures .0,
+    )
+
+returns-2 : tie.Need-returns-2
+unfolding cut
+returns-2 c =
+    let p = c .before .before .before .args .p in
+    let address : p .address % 2 ^ 64 ≡ p .address = omega arith in
+    let offset : p .offset % 2 ^ 32 ≡ p .offset = omega arith in
+    simp (sym (c .before .is-read .ensures) ∙ c .if1 .left, address, offset)
+
+pub sent-spec : {M : Type 1} → statement M
+sent-spec =
+    tie.close
+    (tie.spec
+    is-read-requires
+    answered-requires
+    unanswered-requires
+    cast-offset-at
+    offset-at-requires
+    address-at-requires
+    less-requires
+    returns
+    returns-2)
