@@ -29,7 +29,7 @@ use Rattle.engine.specs.Scanning.{foundIn, boundOf}
 use Rattle.engine.specs.Deciding.{releaseBy, acknowledged, respondedTo}
 
 -- the first that passes a test passes it
-holds : (test : Packet → Bool) (ps : List Packet) → ahead test ps < length ps → test (getD ps (ahead test ps) noPacket) ≡ true
+pub holds : (test : Packet → Bool) (ps : List Packet) → ahead test ps < length ps → test (getD ps (ahead test ps) noPacket) ≡ true
 holds test [] h = absurd (not-suc-le-zero h)
 holds test (p ∷ ps) h =
     by-test (test p) (λ e. rw e e) (λ e. rw e (holds test ps (le-of-suc-le-suc (rw e at h))))

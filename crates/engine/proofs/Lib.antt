@@ -1,3 +1,14 @@
 pub mod Scanned
 pub mod Decided
 pub mod Refusals
+pub mod Hung
+pub mod Moved
+pub mod Kept
+pub mod Completed
+pub mod Rear
+pub mod Left
+pub mod Put
+pub mod Joined
+pub mod Plans
+pub mod Accepting
+pub mod Called

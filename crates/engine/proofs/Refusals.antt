@@ -6,7 +6,7 @@ use Prim.Native.Nat.{ℕ, zero, suc, _+_, _-_, _≤_, _<_, max}
 use native.Mathlib.Omega.{arith}
 use lib.Dec.{ltb, leb, eqb}
 use borrow.Author.Tests.{ltb-true, ltb-false, lt-ltb, le-ltb, eq-eqb, ne-eqb, eqb-true, eqb-false, leb-false}
-use lib.ListN.{length, getD, set, length-map}
+use lib.ListN.{length, set, drop, length-map}
 use Rattle.psn.specs.Psn.{half, distance}
 use Rattle.refusal.specs.Choice.{if_then_else_}
 use Rattle.refusal.specs.Refusals.{Row, _gives_, firstGiven}
@@ -178,17 +178,30 @@ module _ (t : Tables) (at : ℕ) (v : Audited) (ok-is : v .ok ≡ passes small t
       here : tidy (pr .standing) ≡ s .standing
       here = ready-same e low ready
 
-  pub refusal-is : (q : Ask) (c : Scan) → FoundBy (mainSeek q) (c .main .found) → FoundBy (readSeek q) (c .read .found) → (done out : List ℕ)
+  -- the rows after the first three
+  by-rest : (q : Ask) (c : Scan) (done out : List ℕ)
+      → wrongState (asked q []) (pr .standing .state) ≡ wrongState (asked q (lentOf q done out)) (s .standing .state)
+      → (not (v .ok) ≡ false → leb 64 at ≡ false → wrongState (asked q (lentOf q done out)) (s .standing .state) ≡ false
+        → drop 3 (refusalRows v at pr c q (lentOf q (length done) (length out))) ≡ drop 2 (refusals small (asked q (lentOf q done out)) at (sides t)))
       → refusalOf v at pr c q (lentOf q (length done) (length out))
       ≡ firstGiven (not (passes small t) gives 15 ∷ refusals small (asked q (lentOf q done out)) at (sides t))
   unfolding refusalOf s
+  by-rest q c done out e h =
+      heads (wrongState (asked q []) (pr .standing .state)) (wrongState (asked q (lentOf q done out)) (s .standing .state))
+      (drop 3 (refusalRows v at pr c q (lentOf q (length done) (length out))))
+      (drop 2 (refusals small (asked q (lentOf q done out)) at (sides t))) e h
+
+  pub refusal-is : (q : Ask) (c : Scan) → FoundBy (mainSeek q) (c .main .found) → FoundBy (readSeek q) (c .read .found) → (done out : List ℕ)
+      → refusalOf v at pr c q (lentOf q (length done) (length out))
+      ≡ firstGiven (not (passes small t) gives 15 ∷ refusals small (asked q (lentOf q done out)) at (sides t))
+  unfolding s
   refusal-is (ask.Open st first) c m r done out =
-      heads _ _ _ _ (ap (λ (n : ℕ). not (eqb n 0)) state-is) (λ a b w.
+      by-rest (ask.Open st first) c done out (ap (λ (n : ℕ). not (eqb n 0)) state-is) (λ a b w.
       λ i.
       (badSettings small st || badPsn first) gives 3 ∷ no-buffer (length done) i gives 4 ∷ false gives 5 ∷ false gives 6 ∷ false gives 7
       ∷ (room-open a b (is-closed w) st i || false) gives 8 ∷ false gives 9 ∷ [])
   refusal-is (ask.Post m) c f r done out =
-      heads _ _ _ _ (ap (λ (n : ℕ). not (eqb n 1)) state-is) (λ a b w.
+      by-rest (ask.Post m) c done out (ap (λ (n : ℕ). not (eqb n 1)) state-is) (λ a b w.
       let here = ready-same a b (is-ready w) in
       (λ i.
       badPost m gives 3 ∷ no-buffer (length done) i gives 4 ∷ overCeiling (here i .settings) m gives 5
@@ -200,12 +213,13 @@ module _ (t : Tables) (at : ℕ) (v : Audited) (ok-is : v .ok ≡ passes small t
       ∷ (m .fenced && anyRead (s .packets)) gives 6
       ∷ ltb half (distance (s .standing .line .u) (s .standing .line .n) + psnsFor (s .standing .settings) m) gives 7
       ∷ room-post a b (is-ready w) m i gives 8 ∷ false gives 9 ∷ []))
-  refusal-is (ask.Emit budget) c m r done out = heads _ _ _ _ (ap (λ (n : ℕ). not (eqb n 1)) state-is) (λ a b w. refl)
-  refusal-is (ask.Acknowledge psn syndrome) c m r done out = heads _ _ _ _ (ap (λ (n : ℕ). not (eqb n 1)) state-is) (λ a b w. refl)
+  refusal-is (ask.Emit budget) c m r done out = by-rest (ask.Emit budget) c done out (ap (λ (n : ℕ). not (eqb n 1)) state-is) (λ a b w. refl)
+  refusal-is (ask.Acknowledge psn syndrome) c m r done out =
+      by-rest (ask.Acknowledge psn syndrome) c done out (ap (λ (n : ℕ). not (eqb n 1)) state-is) (λ a b w. refl)
   refusal-is (ask.Respond psn opcode len) c m r done out =
-      heads _ _ _ _ (ap (λ (n : ℕ). not (eqb n 1)) state-is) (λ a b w.
+      by-rest (ask.Respond psn opcode len) c done out (ap (λ (n : ℕ). not (eqb n 1)) state-is) (λ a b w.
       λ i.
       (badPsn psn || badResponse opcode) gives 3 ∷ ltb (length done) 512 gives 4 ∷ false gives 5 ∷ false gives 6 ∷ false gives 7 ∷ false gives 8
       ∷ unfit-is a b (is-ready w) psn opcode len (c .read .found) r i gives 9 ∷ [])
-  refusal-is (ask.Tick elapsed) c m r done out = heads _ _ _ _ (ap (λ (n : ℕ). not (eqb n 1)) state-is) (λ a b w. refl)
-  refusal-is ask.Close c m r done out = heads _ _ _ _ (ap (λ (n : ℕ). eqb n 0) state-is) (λ a b w. refl)
+  refusal-is (ask.Tick elapsed) c m r done out = by-rest (ask.Tick elapsed) c done out (ap (λ (n : ℕ). not (eqb n 1)) state-is) (λ a b w. refl)
+  refusal-is ask.Close c m r done out = by-rest ask.Close c done out (ap (λ (n : ℕ). eqb n 0) state-is) (λ a b w. refl)

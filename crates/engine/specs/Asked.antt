@@ -23,3 +23,22 @@ lentOf (Acknowledge psn syndrome) numbers bytes = numbers
 lentOf (Respond psn opcode length) numbers bytes = numbers
 lentOf (Tick elapsed) numbers bytes = numbers
 lentOf Close numbers bytes = numbers
+
+-- each buffer after a call: what the call says of it, if it was lent
+abbrev pub numbersAfter : Ask → List ℕ → List ℕ → List ℕ
+numbersAfter (Open settings first) said numbers = numbers
+numbersAfter (Post post) said numbers = numbers
+numbersAfter (Emit budget) said numbers = numbers
+numbersAfter (Acknowledge psn syndrome) said numbers = said
+numbersAfter (Respond psn opcode length) said numbers = said
+numbersAfter (Tick elapsed) said numbers = said
+numbersAfter Close said numbers = said
+
+abbrev pub bytesAfter : Ask → List ℕ → List ℕ → List ℕ
+bytesAfter (Open settings first) said bytes = bytes
+bytesAfter (Post post) said bytes = bytes
+bytesAfter (Emit budget) said bytes = said
+bytesAfter (Acknowledge psn syndrome) said bytes = bytes
+bytesAfter (Respond psn opcode length) said bytes = bytes
+bytesAfter (Tick elapsed) said bytes = bytes
+bytesAfter Close said bytes = bytes

@@ -1,5 +1,13 @@
 // The requester's decisions, by value: one function for each, on records alone. No table is touched here: a card lends one slot or one pair at a time, and
 // a refused call becomes a walk of no steps.
+mod acting;
+
+pub use acting::complete;
+pub use acting::join_slot;
+pub use acting::join_step;
+pub use acting::leave_step;
+pub use acting::move_step;
+pub use acting::with_link;
 use rules::Answer;
 use rules::Ends;
 use rules::Packet;

@@ -2,18 +2,20 @@
 use mathlib.Core.Path.{_≡_, refl, sym}
 use mathlib.Core.Bool.{Bool, true, false}
 use mathlib.Core.List.{[], _∷_, map, append-nil}
-use Prim.Native.Nat.{ℕ, zero, suc, _+_, _^_, _≤_, _<_}
+use Prim.Native.Nat.{ℕ, zero, suc, _+_, _*_, _%_, _^_, _≤_, _<_}
 use native.Mathlib.Omega.{arith}
-use native.Mathlib.Nat.{zero-add, add-zero, add-suc, suc-add, le-of-suc-le-suc, not-suc-le-zero}
+use native.Mathlib.Nat.{zero-add, add-zero, add-suc, suc-add, le-of-suc-le-suc, not-suc-le-zero, mod-eq-of-lt}
+use lib.Dec.{eqb}
+use borrow.Author.Tests.{eq-eqb, eqb-true, eqb-false}
 use Rattle.refusal.specs.Choice.{if_then_else_, Each}
-use Rattle.refusal.proofs.Cases.{if-case}
+use Rattle.refusal.proofs.Cases.{by-test, if-case}
 use Rattle.psn.specs.Psn.{distance}
-use Rattle.wire.specs.Opcodes.{hasReth}
 use Rattle.rules.specs.declared.Packet.{Packet}
 use Rattle.rules.specs.declared.Settings.{Settings}
 use Rattle.rules.specs.declared.Standing.{Standing}
 use Rattle.rules.specs.declared.Post.{Post}
-use Rattle.rules.specs.Message.{asksRead, isRead, slotsFor, psnsFor, opcodeAt, readRequest, made, packetAt, from, packetsOf, unanswered}
+use Rattle.rules.specs.Message.{asksRead, isRead, pmtu, slotsFor, psnsFor, opcodeAt, readRequest, made, packetAt, from, packetsOf, unanswered}
+use Rattle.rules.specs.Order.{_or_, left, right}
 use Rattle.rules.specs.Emission.{sent}
 use Rattle.rules.specs.WholeMessages.{Allowed, Remaining, rear, no-more}
 use Rattle.rules.proofs.Sides.Good.{length-packets}
@@ -21,7 +23,7 @@ use Rattle.rules.proofs.Sides.Headers.{held-ask}
 use Rattle.rules.proofs.Sides.Fits as fits
 use Rattle.rules.proofs.Sides.Fits.{Fits, packets-fit, sent-inside}
 use Rattle.message.specs.Capped.{cut}
-use Rattle.message.specs.Places.{placeAt}
+use Rattle.message.specs.Places.{placeAt, sentBy}
 use Rattle.message.proofs.Cuts.{cut-same}
 
 pub split-is : (s : Settings) (m : Post) (first : ℕ) → map (placeAt s m first) (from 0 (slotsFor s m)) ≡ packetsOf s m first
@@ -55,11 +57,34 @@ module _ (s : Settings) (m : Post) (first i : ℕ) (ok : Allowed s m) (h : i < s
 
 -- ---- what goes out
 
--- what is cut back only where it is, is as it was
-kept : (a b : ℕ) → (a ≡ b → ⊥) × (a < 2 ^ 64) or (a ≡ b) → (if eqb a b then b else a % 2 ^ 64) ≡ a
-kept a b (left h) = rw (ne-eqb a b (h .0)) (mod-eq-of-lt (h .1))
-kept a b (right e) = rw (eq-eqb a b e) (sym e)
+-- an address that stays, or that fits, is not cut
+kept : (a b : ℕ) → (a ≡ b) or (a < 2 ^ 64) → (if eqb a b then b else a % 2 ^ 64) ≡ a
+kept a b (left e) = rw (eq-eqb a b e) (sym e)
+kept a b (right l) = if-case (λ (x : ℕ). x ≡ a) (eqb a b) (λ e. sym (eqb-true a b e)) (λ _. mod-eq-of-lt l)
+
+-- "A read emitted at U after k responses carries .. address + k × PMTU": inside the read, or the address itself
+stands : (t : Standing) (p : Packet) → Fits p
+    → (sent t p .opcode ≡ p .opcode) × (sent t p .offset < 2 ^ 32) × ((sent t p .address ≡ p .address) or (sent t p .address < 2 ^ 64))
+stands t p f =
+    if-case (λ (q : Packet). (q .opcode ≡ p .opcode) × (q .offset < 2 ^ 32) × ((q .address ≡ p .address) or (q .address < 2 ^ 64))) (isRead p)
+    (λ e. (
+      refl,
+      inside e .0,
+      by-test (eqb done 0) (λ none. left (rw (eqb-true done 0 none) (omega arith))) (λ some. right (inside e .1 (omega (arith, eqb-false done 0 some)))),
+    ))
+    (λ _. (refl, f .offset, left refl))
+  where
+    done : ℕ
+    done = distance (p .psn) (unanswered t p)
+
+    inside : isRead p ≡ true
+        → (p .offset + done * pmtu (t .settings) < 2 ^ 32) × (0 < done → p .address + done * pmtu (t .settings) < 2 ^ 64)
+        × (done * pmtu (t .settings) ≤ p .total)
+    inside e = fits.place-fits (t .settings) p f e done (sent-inside t p)
 
 pub sent-fits : (t : Standing) (p : Packet) → Fits p → p .opcode ≤ readRequest → sentBy t p ≡ sent t p
-unfolding sentBy
-sent-fits t p f op = ?
+unfolding sentBy cut
+sent-fits t p f op =
+    let is = stands t p f in
+    let low : sent t p .opcode < 2 ^ 8 = rw (is .0) (omega arith) in
+    rw (mod-eq-of-lt low, mod-eq-of-lt (is .1), kept (sent t p .address) (p .address) (is .2))

@@ -18,11 +18,12 @@ use rules::Settings;
 use rules::Standing;
 ghost use mathlib.Core.Path.{_≡_};
 ghost use Prim.Native.Nat.{_+_, _-_, _*_, _%_, _^_, _≤_};
+ghost use lib.Dec.{eqb};
+ghost use Rattle.refusal.specs.Choice.{if_then_else_};
 ghost use Rattle.psn.specs.Psn.{distance};
 ghost use Rattle.rules.specs.Message.{pmtu, made, packetAt, unanswered};
-ghost use Rattle.rules.specs.Emission.{sent};
 ghost use Rattle.message.specs.Capped.{capped, tidy, cut};
-ghost use Rattle.message.specs.Places.{placeAt};
+ghost use Rattle.message.specs.Places.{placeAt, sentBy};
 
 // The bytes of so many packets.
 fn bytes_of(s: Settings, n: u32) -> u64
@@ -40,7 +41,7 @@ fn offset_at(offset: u64, by: u64) -> u32
 }
 
 fn address_at(address: u64, by: u64) -> u64
-    ensures { λ r. ⌜ r ≡ (address + by) % 2 ^ 64 ⌝ }
+    ensures { λ r. ⌜ r ≡ (if eqb (address + by) address then address else (address + by) % 2 ^ 64) ⌝ }
 {
     let room = 18_446_744_073_709_551_615 - address;
     if by <= room {
@@ -116,7 +117,7 @@ fn answered(t: Standing, p: Packet) -> u64
 
 // A packet as its record says it: a read that is partly answered asks for the rest.
 pub fn sent(t: Standing, p: Packet) -> Packet
-    ensures { λ r. ⌜ r ≡ cut (sent (tidy t) p) ⌝ }
+    ensures { λ r. ⌜ r ≡ sentBy (tidy t) p ⌝ }
 {
     let mut q = p;
     q.opcode = p.opcode % 256;

@@ -89,16 +89,16 @@ module _ (card : Card) (s : List Slot) where
 -- ---- the tables
 
 module _ (card : Card) (t : Tables) where
-  abbrev ofPairs : List Entry
+  abbrev pub ofPairs : List Entry
   ofPairs = map (entryOf card (t .slots)) (t .pairs)
 
-  abbrev ofFree : Entry
+  abbrev pub ofFree : Entry
   ofFree = record { passed = linksPass (card .none) (t .slots) (freeRecord t); queue = freeRecord t; claim = 0 }
 
-  abbrev entries : List Entry
+  abbrev pub entries : List Entry
   entries = ofPairs ++ (ofFree ∷ [])
 
-  asked-all : asked entries ≡ claimed (claims (sides t))
+  pub asked-all : asked entries ≡ claimed (claims (sides t))
   asked-all =
       asked-more ofPairs ofFree ∙ omega arith ∙ asked-is card (t .slots) (t .pairs) ∙ ap claimed (sym (claims-of (t .slots) (t .pairs)))
 
@@ -118,7 +118,7 @@ module _ (card : Card) (t : Tables) where
       held : (card .slots) - pairsTally card t .held ≡ length (t .slots) - heldBy (t .pairs)
       held = omega (arith, ns, count-pairs ok .held, total-is card (t .slots) (t .pairs))
 
-  whole-is : length (t .slots) ≡ card .slots → pairsTally card t .ok ≡ true → wholeTally card t ≡ tallied (card .slots) (tallyFrom (card .slots)) entries
+  pub whole-is : length (t .slots) ≡ card .slots → pairsTally card t .ok ≡ true → wholeTally card t ≡ tallied (card .slots) (tallyFrom (card .slots)) entries
   whole-is ns ok =
       sym (tally-more (card .slots) (tallyFrom (card .slots)) ofPairs (freeEntry card t (pairsTally card t)))
       ∙ ap (λ (q : Queue). tallied (card .slots) (tallyFrom (card .slots)) (ofPairs ++ (record { passed = linksPass (card .none) (t .slots) q; queue = q; claim = 0 } ∷ []))) (left-is ns ok)

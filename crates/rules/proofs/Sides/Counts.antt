@@ -250,3 +250,17 @@ timer-keeps e s =
     (λ _ _ _. refl)
     (λ _. refl)
     (λ some d. neither d (λ z. omega arith) (λ z. omega arith))
+
+-- ---- at most what is held leaves
+
+pub ack-most : (r y : ℕ) (s : Side) → leaving (acknowledge r y s) ≤ length (s .packets)
+ack-most r y s =
+    by-acknowledge (λ o. leaving o ≤ length (s .packets)) s r y
+    (omega arith)
+    (λ b. omega (arith, released b s .most))
+    (λ b. omega (arith, released b s .most))
+    (λ wait _. omega (arith, released r s .most))
+    (omega (arith, released r s .most))
+
+pub timer-most : (e : ℕ) (s : Side) → leaving (timer e s) ≤ length (s .packets)
+timer-most e s = by-timer (λ o. leaving o ≤ length (s .packets)) s e (λ _ _. omega arith) (λ _ _. omega arith) (omega arith) (λ _. omega arith)

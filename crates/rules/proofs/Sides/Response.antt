@@ -13,16 +13,19 @@ use Rattle.refusal.proofs.Cases.{by-test, if-case}
 use Rattle.refusal.specs.Choice.{if_then_else_}
 use Rattle.rules.specs.declared.Packet.{Packet}
 use Rattle.rules.specs.declared.Answer.the-variants.{Resending}
+use Rattle.rules.specs.declared.Outcome.{Outcome}
 use Rattle.psn.specs.Psn.{psns, half, distance, plus, before}
 use Rattle.rules.specs.Account.{Side, U, X, H, N, ahead, noPacket, further}
 use Rattle.rules.specs.Message.{span}
 use Rattle.rules.specs.Release.{advanced, release, passedBy}
 use Rattle.rules.specs.Acknowledge.{inside}
-use Rattle.rules.specs.Response.{covers, readAt, taken, response}
+use Rattle.rules.specs.Response.{covers, readAt, atLast, taken, response}
 use Rattle.rules.specs.Order.{_or_, left, right}
 use Rattle.rules.proofs.Sides.InOrder.{RunsLow, StartsLow, InOrder}
 use Rattle.psn.proofs.Laws.{distance-zero, distance-from, distance-step, distance-plus}
-use Rattle.rules.proofs.Sides.Order.{whole-or-part, Part, none-before, ordered-release, part-stops}
+use Rattle.rules.proofs.Sides.After.{leaving}
+use Rattle.rules.proofs.Sides.Order.{ahead-most, whole-or-part, Part, none-before, ordered-release, part-stops}
+use Rattle.rules.proofs.Sides.Scan.{stays, released-is}
 use Rattle.rules.proofs.Sides.Responded.{covers-first, ordered-last, ordered-inside}
 use Rattle.rules.proofs.Sides.Acknowledge.{Fine, release-keeps, again}
 
@@ -133,3 +136,18 @@ fine-response s ready o r low fits =
       settings = release-keeps s ready o r .1;
       fate = left (release-keeps s ready o r .0, rw (add-zero, clear r s f .standing, taken-is s o r low h) (one-on s ready o r low h one (fits h .1) f));
     }))
+
+-- at most what is held leaves
+pub response-most : (s : Side) → s .standing .state ≡ 1 → InOrder s → (r : ℕ) → r < psns
+    → (inside r s ≡ true → ahead (covers (s .standing .settings) r) (s .packets) < length (s .packets)) → leaving (response r s) ≤ length (s .packets)
+unfolding response
+response-most s ready o r low fits =
+    if-case (λ (x : Outcome). leaving x ≤ length (s .packets)) (not (inside r s)) (λ _. omega arith) (λ e.
+    let h = not-false (inside r s) e in
+    let one = fits h in
+    if-case (λ (x : Outcome). leaving x ≤ length (s .packets)) (release r s .stopped)
+    (λ _. omega (arith, released-is s o r, ahead-most (stays r (s .standing)) (s .packets)))
+    (λ f. omega (arith, released-is-ahead s ready o r low h one f, one, last)))
+  where
+    last : (if atLast (s .standing .settings) r (readAt r s) then 1 else 0) ≤ 1
+    last = if-case (λ (n : ℕ). n ≤ 1) (atLast (s .standing .settings) r (readAt r s)) (λ _. omega arith) (λ _. omega arith)

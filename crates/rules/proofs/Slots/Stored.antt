@@ -94,7 +94,8 @@ module _ (card : Card) (t : Tables) (w : Whole card t) where
     linked-put : (l : List ℕ) → Linked (card .none) (t .slots) l → Linked (card .none) (filled took qs (t .slots)) l
     linked-put = linked-same (card .none) (t .slots) (filled took qs (t .slots)) (filled-link took qs (t .slots))
 
-    stored-slots : stored (card .none) p st qs t .slots ≡ chain (card .none) (queue t p ++ took) (filled took qs (t .slots))
+    pub stored-slots : stored (card .none) p st qs t .slots
+        ≡ chain (card .none) (queue t p ++ take (length qs) (free t)) (filled (take (length qs) (free t)) qs (t .slots))
     unfolding arranged took
     stored-slots =
         chain-linked (card .none) (drop (length qs) (free t)) (chain (card .none) (queue t p ++ took) (filled took qs (t .slots)))

@@ -31,7 +31,6 @@ cast-t13 c = search needs
 returns : tie.Need-returns
 unfolding cut
 returns c =
-    let address : c .before .before .before .when-wide .result % 2 ^ 64 ≡ c .before .before .before .when-wide .result = omega arith in
     let offset : c .before .before .before .before .before .before .args .offset % 2 ^ 32 ≡ c .before .before .before .before .before .before .args .offset = omega arith in
     simp (
       ← (c .before .before .before .before .before .has-reth .ensures),
@@ -40,7 +39,6 @@ returns c =
       ← (c .before .before .when .ensures),
       ← (c .before .when2 .ensures),
       ← (c .when3 .ensures),
-      address,
       offset,
     )
 

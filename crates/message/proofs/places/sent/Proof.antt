@@ -1,9 +1,11 @@
 -- `sent` meets its contract: the read's rest, or the packet with its opcode cut.
-use mathlib.Core.Path.{_≡_, sym, _∙_}
+use mathlib.Core.Path.{_≡_, refl, sym, _∙_}
 use Prim.Native.Nat.{_%_, _^_}
 use native.Mathlib.Omega.{arith}
+use borrow.Author.Tests.{eq-eqb}
 use borrow.Author.Needs.{needs}
 use Rattle.message.specs.Capped.{cut}
+use Rattle.message.specs.Places.{sentBy}
 use Rattle.message.proofs.places.sent.Statement.{statement}
 use Rattle.message.proofs.places.sent.Tie as tie
 
@@ -29,7 +31,7 @@ less-requires : tie.Need-less-requires
 less-requires c κs = search needs
 
 returns : tie.Need-returns
-unfolding cut
+unfolding sentBy cut
 returns c =
     simp (
       sym (c .before .before .before .before .before .before .before .is-read .ensures) ∙ c .before .before .before .before .before .before .if1 .taken,
@@ -41,12 +43,11 @@ returns c =
     )
 
 returns-2 : tie.Need-returns-2
-unfolding cut
+unfolding sentBy cut
 returns-2 c =
     let p = c .before .before .before .args .p in
-    let address : p .address % 2 ^ 64 ≡ p .address = omega arith in
     let offset : p .offset % 2 ^ 32 ≡ p .offset = omega arith in
-    simp (sym (c .before .is-read .ensures) ∙ c .if1 .left, address, offset)
+    simp (sym (c .before .is-read .ensures) ∙ c .if1 .left, eq-eqb (p .address) (p .address) refl, offset)
 
 pub sent-spec : {M : Type 1} → statement M
 sent-spec =

@@ -1,0 +1,4 @@
+pub mod Tidy
+pub mod Walks
+pub mod Pairs
+pub mod Decided
