@@ -1,8 +1,7 @@
 -- The steps along the tables answer exactly whether the audit holds, and how many slots the open pairs claim.
 use mathlib.Core.Path.{_≡_, refl, sym, ap, _∙_}
-use mathlib.Core.Bool.{Bool, true, false, true≢false}
+use mathlib.Core.Bool.{Bool, true, false}
 use mathlib.Core.Logic.{_↔_}
-use Prim.Native.Nat.{ℕ, _≤_}
 use native.Mathlib.Omega.{arith}
 use lib.Dec.{eqb}
 use borrow.Author.Tests.{eqb-true, eq-eqb}
@@ -22,14 +21,12 @@ use Rattle.rules.proofs.Passes.Tests.{both, joined}
 use Rattle.rules.proofs.Passes.Bits.{none-room}
 use Rattle.rules.proofs.Passes.Tally.{counted, step-ok}
 use Rattle.rules.proofs.Passes.Decided.{entries, asked-all, whole-is, decided}
-use Rattle.audit.specs.Loop.{loop-done}
-use Rattle.audit.specs.Loops.{trace, auditTurn, auditPairs, audited}
+use Rattle.audit.specs.Loops.{trace, auditPairs, audited}
 use Rattle.audit.specs.Steps.{beginAudit, freeQueue, openFree, joinFree}
-use Rattle.audit.specs.declared.Tracing.{Tracing}
 use Rattle.audit.specs.declared.Auditing.{Auditing}
 use Rattle.audit.specs.declared.Audited.{Audited}
 use Rattle.audit.proofs.Walks.{traced, trace-is}
-use Rattle.audit.proofs.Pairs.{lost, join-less, pairs-is}
+use Rattle.audit.proofs.Pairs.{lost, pairs-done, pairs-is}
 
 -- what is said of a tally
 abbrev answer : Tally → Audited
@@ -43,25 +40,21 @@ abbrev empty : Auditing
 empty = record { left = 0; tally = failed (small .slots) }
 
 module _ (t : Tables) where
-  abbrev ended : Auditing → Audited
-  ended v =
-      let w = auditPairs (t .pairs) (t .slots) v in
-      joinFree w (t .ends) (trace (t .slots) (openFree w (t .ends)))
+  abbrev finished : Auditing → Audited
+  finished v = joinFree v (t .ends) (trace (t .slots) (openFree v (t .ends)))
 
   abbrev freeBy : Auditing → Trail → Entry
   freeBy v w = record { passed = trailEnds (small .none) (freeQueue v (t .ends)) w; queue = freeQueue v (t .ends); claim = 0 }
 
   -- the free queue's turn is the definition's
-  free-is : length (t .slots) ≡ small .slots → (v : Auditing)
-      → joinFree v (t .ends) (trace (t .slots) (openFree v (t .ends))) ≡ answer (tallyStep (small .slots) (v .tally) (freeEntry small t (v .tally)))
+  free-is : length (t .slots) ≡ small .slots → (v : Auditing) → finished v ≡ answer (tallyStep (small .slots) (v .tally) (freeEntry small t (v .tally)))
   unfolding linksPass
   free-is size v =
       ap (joinFree v (t .ends)) (trace-is (t .slots) size (openFree v (t .ends)))
       ∙ by-test (v .tally .ok)
       (λ e.
-      ap
-      (λ (b : Bool). joinFree v (t .ends) (record { left = 0; trail = trailed (t .slots) (trailFrom (small .none) (freeQueue v (t .ends))) (if b then freeQueue v (t .ends) .held else 0) }))
-      e)
+      let q = freeQueue v (t .ends) in
+      ap (λ (b : Bool). joinFree v (t .ends) (record { left = 0; trail = trailed (t .slots) (trailFrom (small .none) q) (if b then q .held else 0) })) e)
       (λ e.
       ap answer
       (lost (small .slots) (v .tally) (freeBy v (traced (t .slots) size (openFree v (t .ends)) .trail)) e
@@ -75,7 +68,7 @@ module _ (t : Tables) where
       run = auditPairs (t .pairs) (t .slots) (beginAudit (length (t .pairs)) (length (t .slots)))
 
       tally : run .tally ≡ pairsTally small t
-      tally = 
+      tally =
           ap (λ (b : Bool). auditPairs (t .pairs) (t .slots) (if b then full else empty) .tally)
           (joined (eq-eqb (length (t .pairs)) (small .pairs) np) (eq-eqb (length (t .slots)) (small .slots) ns))
           ∙ pairs-is (t .pairs) (t .slots) np ns full (omega arith)
@@ -84,9 +77,8 @@ module _ (t : Tables) where
   misfit : (eqb (length (t .pairs)) (small .pairs) and eqb (length (t .slots)) (small .slots)) ≡ false → audited t .ok ≡ false
   unfolding audited
   misfit e =
-      ap (λ (b : Bool). ended (if b then full else empty) .ok) e
-      ∙ ap (λ (v : Auditing). joinFree v (t .ends) (trace (t .slots) (openFree v (t .ends))) .ok)
-      (loop-done (λ (x : Auditing). x .left) (auditTurn (t .pairs) (t .slots)) (join-less (t .pairs) (t .slots)) empty refl)
+      ap (λ (b : Bool). finished (auditPairs (t .pairs) (t .slots) (if b then full else empty)) .ok) e
+      ∙ ap (λ (v : Auditing). finished v .ok) (pairs-done (t .pairs) (t .slots) empty refl)
       ∙ ap (λ (w : Tally). w .ok) (lost (small .slots) (failed (small .slots)) (freeBy empty (trace (t .slots) (openFree empty (t .ends)) .trail)) refl)
 
   sized : passes small t ≡ true → (length (t .pairs) ≡ small .pairs) × (length (t .slots) ≡ small .slots)

@@ -1,4 +1,6 @@
-pub mod Tidy
+pub mod Ready
 pub mod Walks
 pub mod Pairs
 pub mod Decided
+pub mod Bits
+pub mod Facts

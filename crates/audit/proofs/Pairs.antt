@@ -5,7 +5,7 @@ use mathlib.Core.List.{List, [], _∷_, map}
 use Prim.Native.Nat.{ℕ, zero, suc, _+_, _-_, _≤_, _<_}
 use native.Mathlib.Omega.{arith}
 use lib.Dec.{leb, eqb}
-use borrow.Author.Tests.{leb-false, eqb-true, eqb-false}
+use borrow.Author.Tests.{leb-false, eqb-true}
 use lib.ListN.{length, drop}
 use Rattle.refusal.specs.Choice.{if_then_else_}
 use Rattle.refusal.proofs.Cases.{by-test, if-case}
@@ -22,15 +22,15 @@ use Rattle.rules.specs.Passes.Tables.{Entry, claimBy, pairPasses, entryOf, fail
 use Rattle.rules.specs.Passes.Tests.{_and_}
 use Rattle.rules.proofs.Passes.Tests.{both, joined}
 use Rattle.rules.proofs.Passes.Loops.{tally-turn, tally-last}
-use Rattle.rules.proofs.Passes.Record.{ready-range}
 use Rattle.rules.proofs.Passes.Stop.{not-passed, too-many, too-much}
 use Rattle.message.specs.Capped.{tidy}
+use Rattle.message.proofs.Cuts.{tidy-same}
 use Rattle.audit.specs.Loop.{loop-done, loop-more}
 use Rattle.audit.specs.Loops.{follow, auditTurn, auditPairs}
 use Rattle.audit.specs.Steps.{nextPair, walkable, openQueue, walkedEntry}
 use Rattle.audit.specs.declared.Following.{Following}
 use Rattle.audit.specs.declared.Auditing.{Auditing}
-use Rattle.audit.proofs.Tidy.{tidy-same}
+use Rattle.audit.proofs.Ready.{ready-settings}
 use Rattle.audit.proofs.Walks.{followed, follow-is}
 
 -- ---- one pair
@@ -44,7 +44,7 @@ pub tidy-walk : (s : List Slot) (t : Standing) (held : ℕ) (w : Walk) → recor
 unfolding recordPasses
 tidy-walk s t held w e =
     by-test (eqb (t .state) 1)
-    (λ q. ap (λ (x : Standing). walked x s w held) (tidy-same small t (ready-range small t held e (eqb-true (t .state) 1 q))))
+    (λ q. ap (λ (x : Standing). walked x s w held) (tidy-same t (ready-settings t held e (eqb-true (t .state) 1 q))))
     (λ q. let z = eqb-true held 0 (rw q at (both (both e .1) .1)) in ap (walked (tidy t) s w) z ∙ ap (walked t s w) (sym z))
 
 module _ (s : List Slot) (size : length s ≡ small .slots) (v : Auditing) (p : Pair) where
@@ -113,38 +113,54 @@ module _ (slots : ℕ) where
 
 -- ---- all pairs
 
-pub join-less : (ps : List Pair) (s : List Slot) (v : Auditing) → 0 < v .left → auditTurn ps s v .left < v .left
-join-less ps s v l = if-case (λ (n : ℕ). n < v .left) (auditTurn ps s v .tally .ok) {a = v .left - 1} {b = 0} (λ _. omega (arith, l)) (λ _. l)
+module _ (ps : List Pair) (s : List Slot) where
+  pub join-less : (v : Auditing) → 0 < v .left → auditTurn ps s v .left < v .left
+  join-less v l = if-case (λ (n : ℕ). n < v .left) (auditTurn ps s v .tally .ok) {a = v .left - 1} {b = 0} (λ _. omega (arith, l)) (λ _. l)
+
+  pub pairs-done : (v : Auditing) → v .left ≡ 0 → auditPairs ps s v ≡ v
+  pairs-done v e = loop-done (λ (x : Auditing). x .left) (auditTurn ps s) join-less v e
+
+  pub pairs-more : (v : Auditing) → 0 < v .left → auditPairs ps s v ≡ auditPairs ps s (auditTurn ps s v)
+  pairs-more v l = loop-more (λ (x : Auditing). x .left) (auditTurn ps s) join-less v l
 
 module _ (ps : List Pair) (s : List Slot) (many : length ps ≡ small .pairs) (size : length s ≡ small .slots) where
-  -- the pairs that are left
-  abbrev pub rest : ℕ → List Entry
-  rest n = map (entryOf small s) (drop (small .pairs - n) ps)
+  -- the tally after the pairs from number k on
+  abbrev after : ℕ → Tally → Tally
+  after k t = tallied (small .slots) t (map (entryOf small s) (drop k ps))
 
-  pub pairs-is : (v : Auditing) → v .left ≤ small .pairs → auditPairs ps s v .tally ≡ tallied (small .slots) (v .tally) (rest (v .left))
+  -- a turn, and whether another comes
+  turned : (v : Auditing) → 0 < v .left → v .left ≤ small .pairs → after (nextPair v) (v .tally) ≡ after (suc (nextPair v)) (auditTurn ps s v .tally)
+  turned v some l =
+      tally-turn (small .slots) (entryOf small s) (v .tally) ps (nextPair v) (omega (arith, some, l, many))
+      ∙ ap (after (suc (nextPair v))) (sym (entry-is s size v (pairAt ps (nextPair v))))
+
+  stopped : (v : Auditing) (k : ℕ) → auditTurn ps s v .tally .ok ≡ false → auditPairs ps s (auditTurn ps s v) .tally ≡ after k (auditTurn ps s v .tally)
+  stopped v k q =
+      let p = pairAt ps (nextPair v) in
+      let lost = not-ok (small .slots) (v .tally) (walkedEntry p (follow s (openQueue v p))) q in
+      ap (λ (x : Auditing). x .tally) (pairs-done ps s (auditTurn ps s v) (ap (λ (b : Bool). if b then v .left - 1 else 0) q))
+      ∙ lost
+      ∙ sym (failed-stays (small .slots) (map (entryOf small s) (drop k ps)))
+      ∙ ap (after k) (sym lost)
+
+  -- the loop's tally is the definition's, from any pair on
+  pub pairs-is : (v : Auditing) → v .left ≤ small .pairs → auditPairs ps s v .tally ≡ after (nextPair v) (v .tally)
   pairs-is v l = go (v .left) v refl l
     where
-      go : (n : ℕ) (v : Auditing) → v .left ≡ n → n ≤ small .pairs → auditPairs ps s v .tally ≡ tallied (small .slots) (v .tally) (rest n)
+      go : (n : ℕ) (v : Auditing) → v .left ≡ n → v .left ≤ small .pairs → auditPairs ps s v .tally ≡ after (nextPair v) (v .tally)
       go zero v e l =
-          ap (λ (x : Auditing). x .tally) (loop-done (λ (x : Auditing). x .left) (auditTurn ps s) (join-less ps s) v e)
+          let end : length ps ≡ nextPair v = omega (arith, many, e) in
+          ap (λ (x : Auditing). x .tally) (pairs-done ps s v e)
           ∙ sym (tally-last (small .slots) (entryOf small s) (v .tally) ps)
-          ∙ ap (λ (n : ℕ). tallied (small .slots) (v .tally) (map (entryOf small s) (drop n ps))) many
+          ∙ ap (λ (k : ℕ). after k (v .tally)) end
       go (suc n) v e l =
           let some : 0 < v .left = omega (arith, e) in
-          let at : small .pairs - v .left ≡ small .pairs - suc n = ap (λ (k : ℕ). small .pairs - k) e in
-          let on : suc (small .pairs - v .left) ≡ small .pairs - n = omega (arith, e, l) in
-          let low : small .pairs - v .left < length ps = omega (arith, e, l, many) in
           let next = auditTurn ps s v in
-          ap (λ (x : Auditing). x .tally) (loop-more (λ (x : Auditing). x .left) (auditTurn ps s) (join-less ps s) v some)
+          ap (λ (x : Auditing). x .tally) (pairs-more ps s v some)
           ∙ by-test (next .tally .ok)
-          (λ q. go n next (ap (λ (b : Bool). if b then v .left - 1 else 0) q ∙ omega (arith, e)) (omega (arith, l)))
           (λ q.
-          let lost = not-ok (small .slots) (v .tally) (walkedEntry (pairAt ps (nextPair v)) (follow s (openQueue v (pairAt ps (nextPair v))))) q in
-          ap (λ (x : Auditing). x .tally) (loop-done (λ (x : Auditing). x .left) (auditTurn ps s) (join-less ps s) next (ap (λ (b : Bool). if b then v .left - 1 else 0) q))
-          ∙ lost
-          ∙ sym (failed-stays (small .slots) (rest n))
-          ∙ ap (λ (x : Tally). tallied (small .slots) x (rest n)) (sym lost))
-          ∙ ap (λ (x : Tally). tallied (small .slots) x (rest n)) (entry-is s size v (pairAt ps (nextPair v)))
-          ∙ ap (λ (k : ℕ). tallied (small .slots) (tallyStep (small .slots) (v .tally) (entryOf small s (pairAt ps (nextPair v)))) (map (entryOf small s) (drop k ps))) (sym on)
-          ∙ sym (tally-turn (small .slots) (entryOf small s) (v .tally) ps (small .pairs - v .left) low)
-          ∙ ap (λ (k : ℕ). tallied (small .slots) (v .tally) (map (entryOf small s) (drop k ps))) at
+          let fewer : next .left ≡ v .left - 1 = ap (λ (b : Bool). if b then v .left - 1 else 0) q in
+          let on : nextPair next ≡ suc (nextPair v) = omega (arith, fewer, some, l) in
+          go n next (omega (arith, fewer, e)) (omega (arith, fewer, l)) ∙ ap (λ (k : ℕ). after k (next .tally)) on)
+          (stopped v (suc (nextPair v)))
+          ∙ sym (turned v some l)

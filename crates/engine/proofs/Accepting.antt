@@ -10,7 +10,7 @@ use borrow.Author.Tests.{ltb-true, ltb-false, leb-false, eqb-false, not-false}
 use lib.ListN.{length, getD, take}
 use Rattle.psn.specs.Psn.{psns, distance, before}
 use Rattle.refusal.specs.Choice.{if_then_else_}
-use Rattle.refusal.proofs.Cases.{by-test, or-left, and-left, and-right}
+use Rattle.refusal.proofs.Cases.{by-test, if-case, or-left, and-left, and-right}
 use Rattle.refusal.proofs.Each.{each-at}
 use Rattle.rules.specs.declared.Answer.{Answer}
 use Rattle.rules.specs.declared.Answer.the-variants.{Dropped, Done, Resending, Held, Resumed, Idle, Ended}
@@ -55,9 +55,10 @@ use Rattle.engine.specs.Asked.{asked, lentOf, numbersAfter, bytesAfter}
 use Rattle.engine.specs.Acting.{Emitted, emit}
 use Rattle.engine.specs.Scanning.{foundIn, sought, mainSeek, readSeek}
 use Rattle.engine.specs.Deciding.{heldBy, acknowledged, respondedTo}
-use Rattle.engine.specs.Planning.{toFree, toPair, outward, planned, leavingPlan, postPlan, emitPlan, goingOf, acceptedPlan}
+use Rattle.engine.specs.Planning.{toFree, toPair, noPost, outward, planned, leavingPlan, postPlan, emitPlan, goingOf, acceptedPlan}
 use Rattle.engine.specs.Body.{Ran, acted}
 use Rattle.engine.proofs.Decided.{holds, acknowledge-is, response-is}
+use Rattle.engine.proofs.Emitted.{emitted-is, going-found}
 use Rattle.engine.proofs.Left.{held-most}
 use Rattle.engine.proofs.Plans.{none-leaves, slots-leave, packets-join, packets-go}
 
@@ -185,9 +186,30 @@ module _ (at : ℕ) (t : Tables) (done out : List ℕ) (a : Audit small t) where
           bytes = out;
         })
 
+    going-most : (budget : ℕ) → going budget s ≤ budget
+    going-most budget = if-case (λ (n : ℕ). n ≤ budget) (ltb 0 (s .standing .clock .hold)) (λ _. omega arith) (λ _. omega arith)
+
+    going-few : (budget : ℕ) → going budget s ≤ length (waiting s)
+    going-few budget = if-case (λ (n : ℕ). n ≤ length (waiting s)) (ltb 0 (s .standing .clock .hold)) (λ _. omega arith) (λ _. omega arith)
+
     emit-is : (budget : ℕ) (f : Found) → FoundIn (mainSeek (ask.Emit budget)) f → Accepted small (emitting budget out) at (sides t)
         → acted at t done out (emitPlan pr (t .ends) budget f) ≡ doneWith at (ask.Emit budget) t done out (effect (emitting budget out) s)
-    emit-is budget f e h = ?emit
+    unfolding emitted
+    emit-is budget f e h =
+        let ready = ready-of (h .state) in
+        let k = going budget s in
+        let y = emitted-is t a at low ready k out (going-few budget) (omega (arith, going-most budget, ltb-false (length out) (recordBytes * budget) (h .buffer))) in
+        (λ i.
+        acted at t done out
+        (planned Count (here ready i) (toFree pr (t .ends) 0 0) (toPair pr (t .ends) 0 noPost)
+        (outward pr (goingOf budget (here ready i) (found-is ready (mainSeek (ask.Emit budget)) f e i)) (found-is ready (mainSeek (ask.Emit budget)) f e i .slot))))
+        ∙ ap (λ (n : ℕ). acted at t done out (planned Count (s .standing) (toFree pr (t .ends) 0 0) (toPair pr (t .ends) 0 noPost) (outward pr n first)))
+        (going-found budget s (queue t at))
+        ∙ packets-go at t done out (a .whole) low k first (endsAt (s .standing .settings) (X s) (outgoing budget s)) (s .standing)
+        (overlaid (emissions (s .standing) (outgoing budget s)) out) (y .2, y .1, y .0)
+      where
+        first : ℕ
+        first = foundIn (sought (s .standing) (mainSeek (ask.Emit budget))) (queue t at) (s .packets) .slot
 
     pub accepted-is : (q : Ask) (c : Scan) → FoundIn (mainSeek q) (c .main .found) → FoundIn (readSeek q) (c .read .found)
         → Accepted small (asked q (lentOf q done out)) at (sides t)

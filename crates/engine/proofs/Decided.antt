@@ -14,6 +14,7 @@ use Rattle.refusal.proofs.Cases.{by-test, and-none}
 use Rattle.rules.specs.declared.Packet.{Packet}
 use Rattle.rules.specs.declared.Release.{Release}
 use Rattle.rules.specs.declared.Outcome.{Outcome}
+use Rattle.rules.specs.declared.Settings.{Settings}
 use Rattle.rules.specs.declared.Standing.{Standing}
 use Rattle.rules.specs.Account.{Side, U, ahead, noPacket}
 use Rattle.rules.specs.Ranges.{topBits, lowBits}
@@ -27,6 +28,10 @@ use Rattle.rules.proofs.Sides.Scan.{stays, released-is}
 use Rattle.engine.specs.declared.Found.{Found}
 use Rattle.engine.specs.Scanning.{foundIn, boundOf}
 use Rattle.engine.specs.Deciding.{releaseBy, acknowledged, respondedTo}
+
+-- an acknowledgement looks at one release alone
+pub bound-is : (s : Settings) (r y held : ℕ) (before : ℕ → Release) → answered s 0 y held (λ _. before (boundOf r y)) ≡ answered s r y held before
+bound-is s r y held before = by-test (eqb (topBits y) 0) (λ e. rw e) (λ e. rw e)
 
 -- the first that passes a test passes it
 pub holds : (test : Packet → Bool) (ps : List Packet) → ahead test ps < length ps → test (getD ps (ahead test ps) noPacket) ≡ true

@@ -1,3 +1,4 @@
+pub mod Tests
 pub mod Scanned
 pub mod Decided
 pub mod Refusals
@@ -9,6 +10,9 @@ pub mod Rear
 pub mod Left
 pub mod Put
 pub mod Joined
+pub mod Placing
+pub mod Recorded
+pub mod Emitted
 pub mod Plans
 pub mod Accepting
 pub mod Called

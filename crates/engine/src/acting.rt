@@ -2,6 +2,8 @@
 use crate::Joining;
 use crate::Leaving;
 use crate::Moving;
+use crate::numbers::less;
+use crate::numbers::pick;
 use message::Card;
 use message::ends_message;
 use message::packet_at;
@@ -12,30 +14,11 @@ ghost use lib.ListN.{set};
 ghost use Rattle.refusal.specs.Choice.{if_then_else_};
 ghost use Rattle.engine.specs.Acting.{moveStep, counted, leaveStep, statusOf, completed, joinStep, joinSlot};
 
-// What is left of some, 0 where there are no more.
-fn less(all: u32, gone: u32) -> u32
-    ensures { λ r. ⌜ r ≡ all - gone ⌝ }
-{
-    if all < gone {
-        return 0;
-    }
-    all - gone
-}
-
 // One more, in 32 bits.
 fn counted(n: u32) -> u32
     ensures { λ r. ⌜ r ≡ counted n ⌝ }
 {
     ((n as u64 + 1) % 4_294_967_296) as u32
-}
-
-fn pick(test: bool, yes: u32, no: u32) -> u32
-    ensures { λ r. ⌜ r ≡ (if test then yes else no) ⌝ }
-{
-    if test {
-        return yes;
-    }
-    no
 }
 
 pub fn with_link(i: Slot, link: u32) -> Slot

@@ -1,6 +1,12 @@
 // The requester's decisions, by value: one function for each, on records alone. No table is touched here: a card lends one slot or one pair at a time, and
 // a refused call becomes a walk of no steps.
 mod acting;
+mod answering;
+mod emission;
+mod numbers;
+mod refusing;
+mod releasing;
+mod scanning;
 
 pub use acting::complete;
 pub use acting::join_slot;
@@ -8,6 +14,12 @@ pub use acting::join_step;
 pub use acting::leave_step;
 pub use acting::move_step;
 pub use acting::with_link;
+pub use emission::RECORD_BYTES;
+pub use emission::emit_record;
+pub use emission::emit_step;
+pub use refusing::refusal;
+pub use scanning::begin_scan;
+pub use scanning::scan_step;
 use rules::Answer;
 use rules::Ends;
 use rules::Packet;

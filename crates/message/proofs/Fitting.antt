@@ -14,7 +14,7 @@ use Rattle.rules.specs.declared.Packet.{Packet}
 use Rattle.rules.specs.declared.Settings.{Settings}
 use Rattle.rules.specs.declared.Standing.{Standing}
 use Rattle.rules.specs.declared.Post.{Post}
-use Rattle.rules.specs.Message.{asksRead, isRead, pmtu, slotsFor, psnsFor, opcodeAt, readRequest, made, packetAt, from, packetsOf, unanswered}
+use Rattle.rules.specs.Message.{asksRead, isRead, pmtu, slotsFor, psnsFor, readRequest, made, packetAt, from, packetsOf, unanswered}
 use Rattle.rules.specs.Order.{_or_, left, right}
 use Rattle.rules.specs.Emission.{sent}
 use Rattle.rules.specs.WholeMessages.{Allowed, Remaining, rear, no-more}

@@ -1,5 +1,5 @@
 -- `address_at` meets its contract: the sum, or what is over 2 ^ 64; a sum that is the address is in its field already.
-use mathlib.Core.Path.{_≡_, sym, _∙_}
+use mathlib.Core.Path.{_≡_, _∙_}
 use Prim.Native.Nat.{ℕ, _+_, _%_, _^_, _<_}
 use native.Mathlib.Omega.{arith}
 use native.Mathlib.Nat.{mod-eq-of-lt}
@@ -14,7 +14,7 @@ use Rattle.message.proofs.places.address_at.Tie as tie
 -- either way it is the sum, cut
 summed : (a b r : ℕ) → a < 2 ^ 64 → r ≡ (a + b) % 2 ^ 64 → r ≡ (if eqb (a + b) a then a else (a + b) % 2 ^ 64)
 summed a b r l e =
-    if-case (λ (x : ℕ). r ≡ x) (eqb (a + b) a) (λ same. e ∙ (rw (eqb-true (a + b) a same) (mod-eq-of-lt l))) (λ _. e)
+    if-case (λ (x : ℕ). r ≡ x) (eqb (a + b) a) (λ same. e ∙ rw (eqb-true (a + b) a same) (mod-eq-of-lt l)) (λ _. e)
 
 sub-room : tie.Need-sub-room
 sub-room c = search needs

@@ -1,0 +1,36 @@
+use borrow.Author.Needs.{needs}
+use Rattle.engine.proofs.answering.responded.Statement.{statement}
+use Rattle.engine.proofs.answering.responded.Tie as tie
+
+resending-requires : tie.Need-resending-requires
+resending-requires c κs = search needs
+
+returns : tie.Need-returns
+returns c = simp (c .resending .ensures, c .before .if1 .taken)
+
+next-requires : tie.Need-next-requires
+next-requires c κs = search needs
+
+taken-requires : tie.Need-taken-requires
+taken-requires c κs = search needs
+
+pick-requires : tie.Need-pick-requires
+pick-requires c κs = search needs
+
+add-t11 : tie.Need-add-t11
+add-t11 c = record { fits = omega (arith, c .before .before .before .pre, one (c .before .pick .ensures)) }
+
+returns-2 : tie.Need-returns-2
+returns-2 c = simp (c .before .pick .ensures, c .before .before .taken .ensures, c .before .before .before .next .ensures, c .before .before .before .before .before .if1 .left)
+
+pub responded-spec : {M : Type 1} → statement M
+responded-spec =
+    tie.close
+    (tie.spec
+    resending-requires
+    returns
+    next-requires
+    taken-requires
+    pick-requires
+    add-t11
+    returns-2)
