@@ -2,8 +2,9 @@
 use mathlib.Core.Path.{_≡_, refl, sym, ap, _∙_}
 use mathlib.Core.Bool.{false}
 use mathlib.Core.List.{List, _∷_, _++_, map}
-use Prim.Native.Nat.{ℕ, zero, suc, _+_, _^_, _≤_, _<_}
+use Prim.Native.Nat.{ℕ, zero, suc, _+_, _≤_, _<_, min}
 use native.Mathlib.Omega.{arith}
+use native.Mathlib.Nat.{min-eq-left}
 use lib.ListN.{length, set, take, drop, length-append}
 use Rattle.rules.specs.declared.Packet.{Packet}
 use Rattle.rules.specs.declared.Post.{Post}
@@ -25,6 +26,7 @@ use Rattle.message.proofs.Fitting.{split-is, place-fits}
 use Rattle.engine.specs.Acting.{Joined, join}
 use Rattle.engine.specs.Planning.{toPair}
 use Rattle.engine.specs.Settling.{longer, freeShorter}
+use Rattle.engine.proofs.Left.{held-and-free}
 use Rattle.engine.proofs.Moved.{Ready, ready-of, Moved}
 use Rattle.engine.proofs.Put.{packetFor, joined-moved}
 use Rattle.engine.proofs.Rear.{none, free-shorter-is}
@@ -78,8 +80,11 @@ module _ (t : Tables) (w : Whole small t) (p : ℕ) (hp : p < small .pairs) (st 
     queue-after : longer (pairAt (t .pairs) p .queue) (slotsFor settings m) (join begun .work .moving) ≡ endsOf none (queue t p ++ take k (free t))
     queue-after = λ i. record { first = after .work i .first; last = after .work i .last; held = held i }
       where
-        held : pairAt (t .pairs) p .queue .held + slotsFor settings m ≡ length (queue t p ++ take k (free t))
-        held = omega (arith, w .pairs-run p hp .held, length-append (queue t p) (take k (free t)), many)
+        few : pairAt (t .pairs) p .queue .held + slotsFor settings m ≤ small .slots
+        few = omega (arith, held-and-free t w p hp, room)
+
+        held : min (pairAt (t .pairs) p .queue .held + slotsFor settings m) (small .slots) ≡ length (queue t p ++ take k (free t))
+        held = min-eq-left few ∙ omega (arith, w .pairs-run p hp .held, length-append (queue t p) (take k (free t)), many)
 
     ends-after : freeShorter (t .ends) (join begun .work .moving) ≡ record { first = firstOf none (drop k (free t)); last = lastOf none (drop k (free t)) }
     ends-after =

@@ -21,14 +21,17 @@ use Rattle.engine.proofs.Kept.{goneFrom, leave-along, left-moved, left-
 use Rattle.engine.proofs.Completed.{gone, gone-is, Completes, left-completed}
 use Rattle.engine.proofs.Rear.{none, shorter-is}
 
--- no pair holds more slots than there are, so a completion buffer has room for all that leave
-pub held-most : (t : Tables) → Whole small t → (p : ℕ) → p < small .pairs → pairAt (t .pairs) p .queue .held ≤ small .slots
-held-most t w p hp =
+-- no pair holds more slots than the free queue leaves
+pub held-and-free : (t : Tables) → Whole small t → (p : ℕ) → p < small .pairs → pairAt (t .pairs) p .queue .held + length (free t) ≤ small .slots
+held-and-free t w p hp =
     omega (
       arith,
       held-set (t .pairs) p (record { standing = pairAt (t .pairs) p .standing; queue = record { first = 0; last = 0; held = 0 } }) (omega (arith, w .pair-records)),
       all-slots small t w,
     )
+
+pub held-most : (t : Tables) → Whole small t → (p : ℕ) → p < small .pairs → pairAt (t .pairs) p .queue .held ≤ small .slots
+held-most t w p hp = omega (arith, held-and-free t w p hp)
 
 -- so many slots of the front of pair p are to leave
 abbrev pub leaver : Tables → ℕ → ℕ → ℕ → List ℕ → Left

@@ -1,6 +1,7 @@
 pub mod Tests
 pub mod Scanned
 pub mod Decided
+pub mod Few
 pub mod Refusals
 pub mod Hung
 pub mod Moved

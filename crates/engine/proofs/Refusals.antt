@@ -182,7 +182,7 @@ module _ (t : Tables) (at : ℕ) (v : Audited) (ok-is : v .ok ≡ passes small t
   by-rest : (q : Ask) (c : Scan) (done out : List ℕ)
       → wrongState (asked q []) (pr .standing .state) ≡ wrongState (asked q (lentOf q done out)) (s .standing .state)
       → (not (v .ok) ≡ false → leb 64 at ≡ false → wrongState (asked q (lentOf q done out)) (s .standing .state) ≡ false
-        → drop 3 (refusalRows v at pr c q (lentOf q (length done) (length out))) ≡ drop 2 (refusals small (asked q (lentOf q done out)) at (sides t)))
+      → drop 3 (refusalRows v at pr c q (lentOf q (length done) (length out))) ≡ drop 2 (refusals small (asked q (lentOf q done out)) at (sides t)))
       → refusalOf v at pr c q (lentOf q (length done) (length out))
       ≡ firstGiven (not (passes small t) gives 15 ∷ refusals small (asked q (lentOf q done out)) at (sides t))
   unfolding refusalOf s

@@ -158,10 +158,9 @@ module _ (s : List Slot) (t : Standing) where
           by-test (wants (moved (w .main)) || wants (moved (w .read)))
           (λ e. ih (scanTurn s w) (rw e (omega (arith, z))) o (sound (w .main) m) (sound (w .read) r))
           (λ e.
-          let d = loop-done (λ (x : Scan). x .left) (scanTurn s) (scan-less s) (scanTurn s w) (rw e) in
-          (
+          let d = loop-done (λ (x : Scan). x .left) (scanTurn s) (scan-less s) (scanTurn s w) (rw e) in (
             ap (λ (x : Scan). x .main) d ∙ sym (ran-idle k (slotAt s (w .at) .link) (moved (w .main)) (sound (w .main) m) (or-left (wants (moved (w .main))) (wants (moved (w .read))) e)),
-            ap (λ (x : Scan). x .read) d ∙ sym (ran-idle k (slotAt s (w .at) .link) (moved (w .read)) (sound (w .read) r) (or-right (wants (moved (w .main))) (wants (moved (w .read))) e))
+            ap (λ (x : Scan). x .read) d ∙ sym (ran-idle k (slotAt s (w .at) .link) (moved (w .read)) (sound (w .read) r) (or-right (wants (moved (w .main))) (wants (moved (w .read))) e)),
           ))
 
   runs : (k : ℕ) → Runs k
@@ -174,8 +173,7 @@ pub scan-is : (s : List Slot) (v : Audited) (p : Pair) (ask : Ask) → v .ok ≡
     × (scanned s (beginScan v p ask) .read .found ≡ foundIn (sought (tidy (p .standing)) (readSeek ask)) (spelled s (p .queue)) (sideOf s p .packets))
 unfolding sideOf
 scan-is s v p ask ok =
-    let r = runs s (tidy (p .standing)) (p .queue .held) (beginScan v p ask) (rw ok) refl (right refl) (right refl) in
-    (
+    let r = runs s (tidy (p .standing)) (p .queue .held) (beginScan v p ask) (rw ok) refl (right refl) (right refl) in (
       ap (λ (c : Search). c .found) (r .0 ∙ ran-new s (tidy (p .standing)) (p .queue .held) (p .queue .first) (mainSeek ask)),
       ap (λ (c : Search). c .found) (r .1 ∙ ran-new s (tidy (p .standing)) (p .queue .held) (p .queue .first) (readSeek ask)),
     )

@@ -1,5 +1,5 @@
 -- After the walks: the pair's next record, the free queue's ends, the answer.
-use Prim.Native.Nat.{ℕ, _+_, _-_}
+use Prim.Native.Nat.{ℕ, _+_, _-_, min}
 use lib.Dec.{eqb}
 use Rattle.refusal.specs.Choice.{if_then_else_}
 use Rattle.rules.specs.declared.Ends.{Ends}
@@ -22,9 +22,9 @@ use Rattle.engine.specs.declared.Settled.{Settled}
 abbrev pub shorter : Queue → ℕ → Moving → Queue
 shorter q k w = record { first = w .at; last = if eqb (q .held - k) 0 then small .none else q .last; held = q .held - k }
 
--- a queue that k slots joined
+-- a queue that k slots joined; no pair holds more slots than there are
 abbrev pub longer : Queue → ℕ → Moving → Queue
-longer q k w = record { first = w .first; last = w .last; held = q .held + k }
+longer q k w = record { first = w .first; last = w .last; held = min (q .held + k) (small .slots) }
 
 -- the free queue after slots joined it, and after slots left it
 abbrev pub freeLonger : Moving → Ends

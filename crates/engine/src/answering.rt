@@ -36,8 +36,38 @@ ghost use Rattle.engine.specs.Deciding.{releaseBy, acknowledged, respond
 
 // The RNR waits, in units of 10,000 ns, by the low five bits.
 const WAITS: [u32; 32] = [
-    65536, 1, 2, 3, 4, 6, 8, 12, 16, 24, 32, 48, 64, 96, 128, 192, 256, 384, 512, 768, 1024, 1536,
-    2048, 3072, 4096, 6144, 8192, 12288, 16384, 24576, 32768, 49152,
+    65536,
+    1,
+    2,
+    3,
+    4,
+    6,
+    8,
+    12,
+    16,
+    24,
+    32,
+    48,
+    64,
+    96,
+    128,
+    192,
+    256,
+    384,
+    512,
+    768,
+    1024,
+    1536,
+    2048,
+    3072,
+    4096,
+    6144,
+    8192,
+    12288,
+    16384,
+    24576,
+    32768,
+    49152,
 ];
 
 const WAIT_UNIT: u64 = 10_000;
@@ -75,7 +105,7 @@ pub(crate) fn back_to_u(retries: u32, rnrs: u32, hold: u64, t: Standing) -> Stan
     updated(line, clock, t)
 }
 
-fn ended_standing(t: Standing) -> Standing
+pub(crate) fn ended_standing(t: Standing) -> Standing
     ensures { λ r. ⌜ r ≡ endedStanding t ⌝ }
 {
     let l = t.line;
@@ -144,7 +174,7 @@ fn ack(g: Release) -> Outcome
 }
 
 // A release, and then the end of the pair, which flushes the rest.
-pub(crate) fn ended_after(held: u32, g: Release) -> Outcome
+fn ended_after(held: u32, g: Release) -> Outcome
     ensures { λ r. ⌜ r ≡ endedAfter held g ⌝ }
 {
     let t = g.standing;

@@ -4,9 +4,12 @@ mod acting;
 mod answering;
 mod emission;
 mod numbers;
+mod planning;
 mod refusing;
 mod releasing;
 mod scanning;
+mod settling;
+mod timing;
 
 pub use acting::complete;
 pub use acting::join_slot;
@@ -17,9 +20,8 @@ pub use acting::with_link;
 pub use emission::RECORD_BYTES;
 pub use emission::emit_record;
 pub use emission::emit_step;
+pub use planning::plan_of;
 pub use refusing::refusal;
-pub use scanning::begin_scan;
-pub use scanning::scan_step;
 use rules::Answer;
 use rules::Ends;
 use rules::Packet;
@@ -28,6 +30,9 @@ use rules::Post;
 use rules::Reply;
 use rules::Settings;
 use rules::Standing;
+pub use scanning::begin_scan;
+pub use scanning::scan_step;
+pub use settling::settle;
 
 // What is asked of one pair.
 pub enum Ask {

@@ -1,3 +1,7 @@
+use mathlib.Core.Path.{ap, _∙_}
+use Rattle.rules.specs.Acknowledge.{answered}
+use Rattle.message.specs.Capped.{capped, tidy}
+use Rattle.engine.specs.Deciding.{releaseBy}
 use Rattle.engine.proofs.Decided.{bound-is}
 use borrow.Author.Needs.{needs}
 use Rattle.engine.proofs.answering.answered_inside.Statement.{statement}
@@ -16,7 +20,13 @@ answered-requires : tie.Need-answered-requires
 answered-requires c κs = search needs
 
 returns : tie.Need-returns
-returns c = simp (c .answered .ensures, c .before .before .tidied .ensures, c .before .before .before .release-by .ensures .0, c .before .before .before .before .bound-of .ensures, bound-is _ _ _ _ _)
+returns c =
+    let start = c .before .before .before .before .before .args in
+    let rel = releaseBy (start .held) (start .f) (tidy (start .t)) in
+    let g = c .before .before .before .release-by .ensures .0 ∙ ap rel (c .before .before .before .before .bound-of .ensures) in
+    c .answered .ensures
+    ∙ (λ i. answered (c .before .before .tidied .ensures i .settings) 0 (start .syndrome) (start .held) (λ _. g i))
+    ∙ bound-is (capped (start .t .settings)) (start .r) (start .syndrome) (start .held) rel
 
 pub answered-inside-spec : {M : Type 1} → statement M
 answered-inside-spec =

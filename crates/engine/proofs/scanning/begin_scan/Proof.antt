@@ -18,7 +18,7 @@ search-for-requires-2 : tie.Need-search-for-requires-2
 search-for-requires-2 c κs = search needs
 
 returns : tie.Need-returns
-returns c = ?
+returns c = simp (c .search-for2 .ensures, c .before .search-for .ensures, c .before .before .read-seek .ensures, c .before .before .before .main-seek .ensures, c .before .before .before .before .pick .ensures)
 
 pub begin-scan-spec : {M : Type 1} → statement M
 begin-scan-spec =

@@ -24,7 +24,7 @@ pick-requires : tie.Need-pick-requires
 pick-requires c κs = search needs
 
 returns : tie.Need-returns
-returns c = ?
+returns c = simp (c .pick .ensures, c .before .less .ensures, c .before .before .either .ensures, c .before .before .before .wants2 .ensures, c .before .before .before .before .wants .ensures, c .before .before .before .before .before .seek-step2 .ensures, c .before .before .before .before .before .before .seek-step .ensures)
 
 pub scan-step-spec : {M : Type 1} → statement M
 scan-step-spec =
