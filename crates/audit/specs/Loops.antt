@@ -4,7 +4,7 @@ use lib.ListN.{length}
 use Rattle.rules.specs.declared.Pair.{Pair}
 use Rattle.rules.specs.declared.Slot.{Slot}
 use Rattle.rules.specs.Slots.{Tables, slotAt, pairAt}
-use Rattle.audit.specs.Loop.{loop}
+use Rattle.refusal.specs.Loop.{loop}
 use Rattle.audit.specs.Steps.{beginAudit, nextPair, openQueue, followStep, joinQueue, openFree, traceStep, joinFree}
 use Rattle.audit.specs.declared.Following.{Following}
 use Rattle.audit.specs.declared.Tracing.{Tracing}

@@ -2,7 +2,6 @@
 mod links;
 mod made;
 mod messages;
-mod numbers;
 mod order;
 mod record;
 mod tally;
@@ -11,8 +10,8 @@ mod walk;
 use crate::links::trail_ends;
 use crate::links::trail_from;
 use crate::links::trail_step;
-use crate::numbers::less;
-use crate::numbers::when;
+use message::less;
+use message::when;
 use crate::record::record_passes;
 use crate::tally::claim_by;
 use crate::tally::has_failed;

@@ -1,6 +1,6 @@
 // A record, compared field by field with the one that must stand there. That one is not built: its offset may pass 32 bits.
-use crate::numbers::when;
-use crate::numbers::when_wide;
+use message::when;
+use message::when_wide;
 use message::both;
 use message::has_immediate;
 use message::has_reth;

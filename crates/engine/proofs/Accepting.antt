@@ -7,7 +7,7 @@ use native.Mathlib.Omega.{arith}
 use native.Mathlib.Nat.{mod-eq-of-lt, min-eq-left}
 use lib.Dec.{ltb, leb, eqb}
 use borrow.Author.Tests.{ltb-true, ltb-false, leb-false, eqb-false, not-false}
-use lib.ListN.{length, getD, take}
+use lib.ListN.{length, getD, take, length-drop}
 use Rattle.psn.specs.Psn.{psns, distance, before}
 use Rattle.refusal.specs.Choice.{if_then_else_}
 use Rattle.refusal.proofs.Cases.{by-test, if-case, or-left, and-left, and-right}
@@ -47,19 +47,21 @@ use Rattle.message.specs.Capped.{tidy}
 use Rattle.message.proofs.Cuts.{tidy-same}
 use Rattle.engine.specs.declared.Ask.{Ask}
 use Rattle.engine.specs.declared.Ask.the-variants as ask
-use Rattle.engine.specs.declared.Found.{Found}
+use Rattle.outcomes.specs.declared.Found.{Found}
 use Rattle.engine.specs.declared.Scan.{Scan}
 use Rattle.engine.specs.declared.Seek.{Seek}
 use Rattle.engine.specs.declared.Told.the-variants.{First, Count}
 use Rattle.engine.specs.Asked.{asked, lentOf, numbersAfter, bytesAfter}
-use Rattle.engine.specs.Acting.{Emitted, emit}
-use Rattle.engine.specs.Scanning.{foundIn, sought, mainSeek, readSeek}
-use Rattle.engine.specs.Deciding.{heldBy, acknowledged, respondedTo}
-use Rattle.engine.specs.Planning.{toFree, toPair, noPost, outward, planned, leavingPlan, postPlan, emitPlan, goingOf, acceptedPlan}
+use Rattle.walks.specs.Acting.{Emitted, emit}
+use Rattle.outcomes.specs.Finding.{foundIn}
+use Rattle.engine.specs.Scanning.{sought, mainSeek, readSeek}
+use Rattle.outcomes.specs.Deciding.{heldBy, acknowledged, respondedTo}
+use Rattle.walks.specs.Begun.{toFree, toPair, noPost, outward}
+use Rattle.engine.specs.Planning.{planned, leavingPlan, postPlan, emitPlan, goingOf, acceptedPlan}
 use Rattle.engine.specs.Body.{Ran, acted}
-use Rattle.engine.proofs.Decided.{holds, acknowledge-is, response-is}
-use Rattle.engine.proofs.Emitted.{emitted-is, going-found}
-use Rattle.engine.proofs.Left.{held-most}
+use Rattle.outcomes.proofs.Decided.{holds, acknowledge-is, response-is}
+use Rattle.walks.proofs.Emitted.{emitted-is}
+use Rattle.walks.proofs.Left.{held-most}
 use Rattle.engine.proofs.Plans.{none-leaves, slots-leave, packets-join, packets-go}
 
 -- a place fits its number
@@ -71,6 +73,13 @@ place-kept Held n h = refl
 place-kept Resumed n h = refl
 place-kept Idle n h = refl
 place-kept Ended n h = refl
+
+-- as many go as the rules say, by what a scan has found
+going-found : (budget : ℕ) (s : Side) (l : List ℕ)
+    → goingOf budget (s .standing) (foundIn (λ p. before (U s) (X s) (ends (s .standing .settings) p)) l (s .packets)) ≡ going budget s
+going-found budget s l =
+    ap (λ (n : ℕ). if ltb 0 (s .standing .clock .hold) then 0 else min budget n)
+    (sym (length-drop (ahead (λ p. before (U s) (X s) (ends (s .standing .settings) p)) (s .packets)) (s .packets)))
 
 -- what is asked for, done: with this effect
 abbrev pub doneWith : ℕ → Ask → Tables → List ℕ → List ℕ → Effect → Ran

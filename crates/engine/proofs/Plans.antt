@@ -21,21 +21,22 @@ use Rattle.rules.specs.Ranges.{badSettings}
 use Rattle.rules.specs.Slots.{Tables, pairAt, free, side, freed, stored}
 use Rattle.rules.specs.WholeMessages.{Allowed}
 use Rattle.rules.proofs.Slots.Freed.{freed-none}
-use Rattle.audit.specs.Loop.{loop-done}
-use Rattle.engine.specs.declared.Joining.{Joining}
-use Rattle.engine.specs.declared.Leaving.{Leaving}
-use Rattle.engine.specs.declared.Emitting.{Emitting}
+use Rattle.refusal.specs.Loop.{loop-done}
+use Rattle.walks.specs.declared.Joining.{Joining}
+use Rattle.walks.specs.declared.Leaving.{Leaving}
+use Rattle.walks.specs.declared.Emitting.{Emitting}
 use Rattle.engine.specs.declared.Plan.{Plan}
 use Rattle.engine.specs.declared.Told.{Told}
 use Rattle.engine.specs.declared.Told.the-variants.{Refused, Answered, First, Count}
-use Rattle.engine.specs.Acting.{Left, leave, Joined, join, Emitted, emit, emitTurn}
-use Rattle.engine.specs.Planning.{toFree, toPair, noPost, outward, planned, resting, leavingPlan}
+use Rattle.walks.specs.Acting.{Left, leave, Joined, join, Emitted, emit, emitTurn}
+use Rattle.walks.specs.Begun.{toFree, toPair, noPost, outward}
+use Rattle.engine.specs.Planning.{planned, resting, leavingPlan}
 use Rattle.engine.specs.Settling.{settledOf}
 use Rattle.engine.specs.Body.{Ran, acted}
-use Rattle.engine.proofs.Kept.{leave-none}
-use Rattle.engine.proofs.Put.{join-none}
-use Rattle.engine.proofs.Left.{held-most, left-is}
-use Rattle.engine.proofs.Joined.{joined-is}
+use Rattle.walks.proofs.Kept.{leave-none}
+use Rattle.walks.proofs.Put.{join-none}
+use Rattle.walks.proofs.Left.{held-most, left-is}
+use Rattle.walks.proofs.Joined.{joined-is}
 
 set-as-is : (ps : List Pair) (i : ℕ) → set ps i (pairAt ps i) ≡ ps
 unfolding pairAt

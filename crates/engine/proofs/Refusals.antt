@@ -43,11 +43,12 @@ use Rattle.engine.specs.declared.Ask.{Ask}
 use Rattle.engine.specs.declared.Ask.the-variants as ask
 use Rattle.engine.specs.declared.Seek.{Seek}
 use Rattle.engine.specs.declared.Seek.the-variants.{Read, Covering}
-use Rattle.engine.specs.declared.Found.{Found}
+use Rattle.outcomes.specs.declared.Found.{Found}
 use Rattle.engine.specs.declared.Scan.{Scan}
 use Rattle.engine.specs.Asked.{asked, lentOf}
-use Rattle.engine.specs.Scanning.{foundIn, sought, mainSeek, readSeek}
-use Rattle.engine.specs.Deciding.{bare}
+use Rattle.outcomes.specs.Finding.{foundIn}
+use Rattle.engine.specs.Scanning.{sought, mainSeek, readSeek}
+use Rattle.outcomes.specs.Deciding.{bare}
 use Rattle.engine.specs.Refusing.{crowdedBy, crowded, unfitBy, refusalRows, refusalOf}
 
 -- ---- what was found, as tests

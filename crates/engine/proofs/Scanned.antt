@@ -19,15 +19,16 @@ use Rattle.rules.specs.Slots.{slotAt, follow, spelled, sideOf}
 use Rattle.rules.specs.Order.{_or_, left, right}
 use Rattle.rules.proofs.Slots.Queues.{length-follow}
 use Rattle.audit.specs.declared.Audited.{Audited}
-use Rattle.audit.specs.Loop.{loop-done, loop-more}
+use Rattle.refusal.specs.Loop.{loop-done, loop-more}
 use Rattle.message.specs.Capped.{tidy}
 use Rattle.engine.specs.declared.Ask.{Ask}
 use Rattle.engine.specs.declared.Seek.{Seek}
 use Rattle.engine.specs.declared.Seek.the-variants.{Nothing, Read, Waiting, Staying, Covering}
-use Rattle.engine.specs.declared.Found.{Found}
+use Rattle.outcomes.specs.declared.Found.{Found}
 use Rattle.engine.specs.declared.Search.{Search}
 use Rattle.engine.specs.declared.Scan.{Scan}
-use Rattle.engine.specs.Scanning.{sought, nothingFound, foundIn, seekStep, isIdle, wants, searchFor, mainSeek, readSeek, beginScan, scanTurn, scanned}
+use Rattle.engine.specs.Scanning.{sought, seekStep, isIdle, wants, searchFor, mainSeek, readSeek, beginScan, scanTurn, scanned}
+use Rattle.outcomes.specs.Finding.{nothingFound, foundIn}
 
 -- each step leaves fewer slots to look at
 pub scan-less : (s : List Slot) (w : Scan) → 0 < w .left → scanTurn s w .left < w .left

@@ -15,7 +15,7 @@ use Rattle.engine.specs.declared.Settled.{Settled}
 use Rattle.engine.specs.Asked.{asked, lentOf, numbersAfter, bytesAfter}
 use Rattle.engine.specs.Scanning.{beginScan, scanned}
 use Rattle.engine.specs.Planning.{planOf}
-use Rattle.engine.specs.Acting.{Left, leave, Joined, join, Emitted, emit}
+use Rattle.walks.specs.Acting.{Left, leave, Joined, join, Emitted, emit}
 use Rattle.engine.specs.Settling.{settledOf}
 
 -- what a call leaves: its answer, the tables, and both buffers

@@ -1,6 +1,5 @@
 -- What a call is to do: nothing, where it is refused; else what the rules say, as an answer, the pair's next standing and a walk.
-use mathlib.Core.Bool.{false}
-use Prim.Native.Nat.{ℕ, _+_, _%_, _^_, min}
+use Prim.Native.Nat.{ℕ, _%_, _^_, min}
 use lib.Dec.{ltb, eqb}
 use Rattle.refusal.specs.Choice.{if_then_else_}
 use Rattle.rules.specs.declared.Answer.the-variants.{Done}
@@ -19,48 +18,17 @@ use Rattle.audit.specs.declared.Audited.{Audited}
 use Rattle.message.specs.Capped.{capped, tidy}
 use Rattle.engine.specs.declared.Ask.{Ask}
 use Rattle.engine.specs.declared.Ask.the-variants as ask
-use Rattle.engine.specs.declared.Found.{Found}
+use Rattle.outcomes.specs.declared.Found.{Found}
 use Rattle.engine.specs.declared.Scan.{Scan}
-use Rattle.engine.specs.declared.Moving.{Moving}
-use Rattle.engine.specs.declared.Leaving.{Leaving}
-use Rattle.engine.specs.declared.Joining.{Joining}
-use Rattle.engine.specs.declared.Emitting.{Emitting}
+use Rattle.walks.specs.declared.Leaving.{Leaving}
+use Rattle.walks.specs.declared.Joining.{Joining}
+use Rattle.walks.specs.declared.Emitting.{Emitting}
 use Rattle.engine.specs.declared.Told.{Told}
 use Rattle.engine.specs.declared.Told.the-variants.{Refused, Answered, First, Count}
 use Rattle.engine.specs.declared.Plan.{Plan}
-use Rattle.engine.specs.Deciding.{heldBy, acknowledged, respondedTo}
+use Rattle.walks.specs.Begun.{toFree, toPair, noPost, outward}
+use Rattle.outcomes.specs.Deciding.{heldBy, acknowledged, respondedTo}
 use Rattle.engine.specs.Refusing.{refusalOf}
-
--- ---- the walks
-
--- so many slots of the pair's front, to the free queue's end
-abbrev pub toFree : Pair → Ends → ℕ → ℕ → Leaving
-toFree p e released flushed =
-    record {
-      moving = record { left = released + flushed; at = p .queue .first; first = e .first; last = e .last };
-      released = released;
-      messages = 0;
-    }
-
--- so many slots of the free queue's front, to the pair's end
-abbrev pub toPair : Pair → Ends → ℕ → Post → Joining
-toPair p e k m =
-    record {
-      moving = record { left = k; at = e .first; first = p .queue .first; last = p .queue .last };
-      total = k;
-      settings = p .standing .settings;
-      post = m;
-      first = p .standing .line .n;
-    }
-
-abbrev pub noPost : Post
-noPost = record { kind = 0; immediate = false; fenced = false; ticket = 0; offset = 0; length = 0; address = 0; key = 0; value = 0 }
-
--- so many packets, from the one found on
-abbrev pub outward : Pair → ℕ → ℕ → Emitting
-outward p k at = record { left = k; total = k; at = at; x = p .standing .line .x; standing = p .standing }
-
--- ---- the plans
 
 abbrev pub planned : Told → Standing → Leaving → Joining → Emitting → Plan
 planned told t leaving joining emitting = record { told = told; standing = t; leaving = leaving; joining = joining; emitting = emitting }

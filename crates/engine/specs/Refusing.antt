@@ -18,10 +18,10 @@ use Rattle.rules.specs.Refusals.{ofOpening, ofPost, ofResponse, wrongState, out
 use Rattle.audit.specs.declared.Audited.{Audited}
 use Rattle.message.specs.Capped.{tidy}
 use Rattle.engine.specs.declared.Ask.{Ask}
-use Rattle.engine.specs.declared.Found.{Found}
+use Rattle.outcomes.specs.declared.Found.{Found}
 use Rattle.engine.specs.declared.Scan.{Scan}
 use Rattle.engine.specs.Asked.{asked}
-use Rattle.engine.specs.Deciding.{bare}
+use Rattle.outcomes.specs.Deciding.{bare}
 
 -- 8 of an open: the sum with one claim more
 abbrev pub crowdedBy : ℕ → ℕ → Bool

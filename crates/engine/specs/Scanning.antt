@@ -3,29 +3,26 @@ use mathlib.Core.Bool.{Bool, true, false, not, _&&_, _||_}
 use mathlib.Core.List.{List}
 use Prim.Native.Nat.{ℕ, _-_}
 use lib.Dec.{ltb, eqb}
-use lib.ListN.{length, getD}
-use Rattle.psn.specs.Psn.{before, next}
+use Rattle.psn.specs.Psn.{before}
 use Rattle.refusal.specs.Choice.{if_then_else_}
 use Rattle.rules.specs.declared.Packet.{Packet}
 use Rattle.rules.specs.declared.Pair.{Pair}
 use Rattle.rules.specs.declared.Slot.{Slot}
 use Rattle.rules.specs.declared.Standing.{Standing}
-use Rattle.rules.specs.Card.{small}
-use Rattle.rules.specs.Account.{ahead, noPacket}
 use Rattle.rules.specs.Message.{isRead}
 use Rattle.rules.specs.Emission.{ends}
-use Rattle.rules.specs.Ranges.{topBits}
 use Rattle.rules.specs.Response.{covers}
 use Rattle.rules.specs.Slots.{slotAt}
 use Rattle.rules.proofs.Sides.Scan.{stays}
 use Rattle.audit.specs.declared.Audited.{Audited}
-use Rattle.audit.specs.Loop.{loop}
+use Rattle.refusal.specs.Loop.{loop}
 use Rattle.message.specs.Capped.{tidy}
 use Rattle.engine.specs.declared.Ask.{Ask}
 use Rattle.engine.specs.declared.Ask.the-variants.{Open, Post, Emit, Acknowledge, Respond, Tick, Close}
 use Rattle.engine.specs.declared.Seek.{Seek}
 use Rattle.engine.specs.declared.Seek.the-variants.{Nothing, Read, Waiting, Staying, Covering}
-use Rattle.engine.specs.declared.Found.{Found}
+use Rattle.outcomes.specs.declared.Found.{Found}
+use Rattle.outcomes.specs.Finding.{nothingFound, boundOf}
 use Rattle.engine.specs.declared.Search.{Search}
 use Rattle.engine.specs.declared.Scan.{Scan}
 
@@ -36,15 +33,6 @@ sought t Read p = isRead p
 sought t Waiting p = before (t .line .u) (t .line .x) (ends (t .settings) p)
 sought t (Staying b) p = stays b t p
 sought t (Covering r) p = covers (t .settings) r p
-
-abbrev pub nothingFound : Found
-nothingFound = record { left = 0; slot = small .none; packet = noPacket }
-
--- the first such packet of a queue's slots and packets: what a search comes to (`scan-is`)
-abbrev pub foundIn : (Packet → Bool) → List ℕ → List Packet → Found
-foundIn test l ps =
-    let k = ahead test ps in
-    record { left = length ps - k; slot = getD l k (small .none); packet = getD ps k noPacket }
 
 -- a search goes on until it has found one
 abbrev pub seekStep : Standing → ℕ → ℕ → Packet → Search → Search
@@ -64,10 +52,6 @@ abbrev pub wants : Search → Bool
 wants c = not (isIdle (c .seek)) && eqb (c .found .left) 0
 
 -- ---- what each call seeks
-
--- "ACK: release before R + 1"; a NAK or an RNR before R
-abbrev pub boundOf : ℕ → ℕ → ℕ
-boundOf r syndrome = if eqb (topBits syndrome) 0 then next r else r
 
 abbrev pub mainSeek : Ask → Seek
 mainSeek (Open settings first) = Nothing

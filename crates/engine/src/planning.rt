@@ -1,26 +1,22 @@
 // What a call is to do, from the audit's answer, the pair's record, the scan, the arguments and the lent buffer's length.
 use crate::Ask;
-use crate::Emitting;
-use crate::Found;
-use crate::Joining;
-use crate::Leaving;
-use crate::Moving;
 use crate::Plan;
 use crate::Scan;
 use crate::Told;
-use crate::answering::acknowledged;
-use crate::answering::responded_to;
-use crate::numbers::pick;
-use crate::numbers::smaller;
+use message::pick;
+use message::smaller;
 use crate::refusing::refusal;
-use crate::releasing::tidied;
-use crate::releasing::updated;
-use crate::timing::timed;
 use audit::Audited;
 use message::Card;
 use message::mtu;
 use message::psns_for;
 use message::slots_for;
+use outcomes::Found;
+use outcomes::acknowledged;
+use outcomes::responded_to;
+use outcomes::tidied;
+use outcomes::timed;
+use outcomes::updated;
 use psn::Psn;
 use rules::Answer;
 use rules::Clock;
@@ -32,6 +28,10 @@ use rules::Pair;
 use rules::Post;
 use rules::Settings;
 use rules::Standing;
+use walks::Emitting;
+use walks::Joining;
+use walks::Leaving;
+use walks::Moving;
 ghost use mathlib.Core.Path.{_≡_};
 ghost use Prim.Native.Nat.{_+_, _^_, _≤_, _<_};
 ghost use Rattle.rules.specs.declared.Answer.the-variants.{Done};
@@ -43,8 +43,9 @@ ghost use Rattle.rules.specs.Calls.{placeIf};
 ghost use Rattle.message.specs.Capped.{capped, tidy};
 ghost use Rattle.rules.specs.Timer.{timed};
 ghost use Rattle.engine.specs.declared.Told.the-variants.{Answered};
-ghost use Rattle.engine.specs.Deciding.{heldBy, acknowledged, respondedTo};
-ghost use Rattle.engine.specs.Planning.{toFree, toPair, noPost, outward, planned, resting, leavingPlan, postPlan, goingOf, emitPlan, acceptedPlan, planOf};
+ghost use Rattle.outcomes.specs.Deciding.{heldBy, acknowledged, respondedTo};
+ghost use Rattle.walks.specs.Begun.{toFree, toPair, noPost, outward};
+ghost use Rattle.engine.specs.Planning.{planned, resting, leavingPlan, postPlan, goingOf, emitPlan, acceptedPlan, planOf};
 
 // ---- the walks
 
@@ -309,8 +310,8 @@ fn respond_plan(p: Pair, e: Ends, r: u32, f: Found, read: Packet) -> Plan
 {
     let t = p.standing;
     let s = t.settings;
-    let held = held_by(p);
-    let o = responded_to(r, held, f, read, t);
+    let q = p.queue;
+    let o = responded_to(r, q.held, f, read, t);
     let answer = o.answer;
     let at = place_of(s, r, read);
     let place = place_if(answer, at);

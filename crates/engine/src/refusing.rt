@@ -1,6 +1,5 @@
 // The refusals of a request, in the order of the rules' one list: the first row that holds gives its number. Sums are in 64 bits, so that none runs over.
 use crate::Ask;
-use crate::Found;
 use crate::Scan;
 use audit::Audited;
 use message::Card;
@@ -19,6 +18,8 @@ use message::over_ceiling;
 use message::psns_for;
 use message::slots_for;
 use message::span;
+use outcomes::Found;
+use outcomes::at_last;
 use psn::Psn;
 use refusal::Refusal;
 use rules::Line;
@@ -39,7 +40,7 @@ ghost use Rattle.refusal.specs.Refusals.{_gives_, firstGiven};
 ghost use Rattle.rules.specs.Card.{small};
 ghost use Rattle.rules.specs.Message.{slotsFor, psnsFor};
 ghost use Rattle.rules.specs.Ranges.{badSettings, badPsn, badPost, badBudget, badSyndrome, badResponse, badElapsed, overCeiling};
-ghost use Rattle.rules.specs.Response.{atLast, differ, misfit};
+ghost use Rattle.rules.specs.Response.{differ, misfit};
 ghost use Rattle.message.specs.Capped.{capped, tidy};
 ghost use Rattle.engine.specs.Refusing.{crowdedBy, crowded, unfitBy, refusalRows, refusalOf};
 
@@ -113,21 +114,6 @@ fn differ(a: bool, b: bool) -> bool
         return !b;
     }
     b
-}
-
-fn is_last_of(k: u32, n: u32) -> bool
-    ensures { λ r. ⌜ r ≡ eqb (k + 1) n ⌝ }
-{
-    k as u64 + 1 == n as u64
-}
-
-// R's place is the read's last.
-pub(crate) fn at_last(s: Settings, r: u32, p: Packet) -> bool
-    ensures { λ a. ⌜ a ≡ atLast (capped s) r p ⌝ }
-{
-    let k = Psn::distance(p.psn, r);
-    let n = span(s, p);
-    is_last_of(k, n)
 }
 
 fn misfit(s: Settings, r: u32, opcode: u32, len: u32, p: Packet) -> bool

@@ -1,11 +1,10 @@
 // The scan of a pair's queue before a call decides: what each call seeks, and one slot of the walk that seeks it.
 use crate::Ask;
-use crate::Found;
 use crate::Scan;
 use crate::Search;
 use crate::Seek;
-use crate::numbers::less;
-use crate::numbers::pick;
+use message::less;
+use message::pick;
 use audit::Audited;
 use message::Card;
 use message::after_x;
@@ -14,14 +13,16 @@ use message::covers;
 use message::either;
 use message::is_read;
 use message::stays;
-use psn::Psn;
+use outcomes::Found;
+use outcomes::bound_of;
 use rules::Packet;
 use rules::Pair;
 use rules::Slot;
 use rules::Standing;
 ghost use mathlib.Core.Path.{_≡_};
 ghost use Rattle.message.specs.Capped.{tidy};
-ghost use Rattle.engine.specs.Scanning.{sought, nothingFound, seekStep, isIdle, wants, boundOf, mainSeek, readSeek, searchFor, beginScan, scanStep};
+ghost use Rattle.engine.specs.Scanning.{sought, seekStep, isIdle, wants, mainSeek, readSeek, searchFor, beginScan, scanStep};
+ghost use Rattle.outcomes.specs.Finding.{nothingFound, boundOf};
 
 pub(crate) fn is_sought(t: Standing, k: Seek, p: Packet) -> bool
     ensures { λ r. ⌜ r ≡ sought (tidy t) k p ⌝ }
@@ -75,16 +76,6 @@ pub(crate) fn wants(c: Search) -> bool
     let seek = c.seek;
     let idle = is_idle(seek);
     both(!idle, found.left == 0)
-}
-
-// An ACK releases what it answers too, a NAK or an RNR what is before it.
-pub(crate) fn bound_of(r: u32, syndrome: u32) -> u32
-    ensures { λ b. ⌜ b ≡ boundOf r syndrome ⌝ }
-{
-    if syndrome / 32 == 0 {
-        return Psn::next(r);
-    }
-    r
 }
 
 pub(crate) fn main_seek(ask: Ask) -> Seek

@@ -1,15 +1,11 @@
 // After the walks: the pair's next record, the free queue's ends, the answer.
-use crate::Emitting;
-use crate::Joining;
-use crate::Leaving;
-use crate::Moving;
 use crate::Plan;
 use crate::Settled;
 use crate::Told;
-use crate::numbers::less;
-use crate::numbers::pick;
-use crate::releasing::further;
-use crate::releasing::updated;
+use message::less;
+use message::pick;
+use outcomes::further;
+use outcomes::updated;
 use message::Card;
 use rules::Answer;
 use rules::Ends;
@@ -18,11 +14,16 @@ use rules::Pair;
 use rules::Queue;
 use rules::Reply;
 use rules::Standing;
+use walks::Emitting;
+use walks::Joining;
+use walks::Leaving;
+use walks::Moving;
 ghost use mathlib.Core.Path.{_≡_};
 ghost use Prim.Native.Nat.{_+_, min};
 ghost use Rattle.rules.specs.declared.Reply.the-variants as reply;
 ghost use Rattle.rules.specs.Emission.{movedTo};
-ghost use Rattle.engine.specs.Settling.{shorter, longer, freeLonger, freeShorter, settledOf};
+ghost use Rattle.walks.specs.Ended.{shorter, longer, freeLonger, freeShorter};
+ghost use Rattle.engine.specs.Settling.{settledOf};
 
 // A queue from whose front k slots went keeps its last, unless it is empty now.
 fn shorter(q: Queue, k: u32, w: Moving) -> Queue

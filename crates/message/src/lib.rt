@@ -4,7 +4,7 @@ mod packets;
 mod places;
 mod ranges;
 mod sizes;
-mod tests;
+mod straight;
 
 pub use opcodes::carries;
 pub use opcodes::has_immediate;
@@ -39,8 +39,14 @@ pub use sizes::packets_for;
 pub use sizes::psns_for;
 pub use sizes::slots_for;
 pub use sizes::timeout;
-pub use tests::both;
-pub use tests::either;
+pub use straight::both;
+pub use straight::either;
+pub use straight::less;
+pub use straight::less_wide;
+pub use straight::pick;
+pub use straight::smaller;
+pub use straight::when;
+pub use straight::when_wide;
 
 // The card's sizes: the definitions' `small`.
 pub struct Card;

@@ -1,8 +1,8 @@
 // What a packet says, and what a pair's line says of it.
 use crate::opcodes::is_last;
 use crate::sizes::packets_for;
-use crate::tests::both;
-use crate::tests::either;
+use crate::straight::both;
+use crate::straight::either;
 use psn::Psn;
 use rules::Packet;
 use rules::Settings;

@@ -9,8 +9,8 @@ use crate::sizes::asks_read;
 use crate::sizes::length_at;
 use crate::sizes::mtu;
 use crate::sizes::psns_for;
-use crate::tests::when;
-use crate::tests::when_wide;
+use crate::straight::when;
+use crate::straight::when_wide;
 use psn::Psn;
 use rules::Packet;
 use rules::Post;
@@ -50,7 +50,7 @@ fn address_at(address: u64, by: u64) -> u64
     by - room - 1
 }
 
-fn less(all: u32, by: u64) -> u32
+fn rest_of(all: u32, by: u64) -> u32
     ensures { λ r. ⌜ r ≡ all - by ⌝ }
 {
     if all as u64 <= by {
@@ -128,7 +128,7 @@ pub fn sent(t: Standing, p: Packet) -> Packet
         q.offset = offset_at(p.offset as u64, by);
         q.length = 0;
         q.address = address_at(p.address, by);
-        q.total = less(p.total, by);
+        q.total = rest_of(p.total, by);
     }
     q
 }

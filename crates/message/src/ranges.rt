@@ -2,8 +2,8 @@
 use crate::Card;
 use crate::sizes::asks_read;
 use crate::sizes::slots_for;
-use crate::tests::both;
-use crate::tests::either;
+use crate::straight::both;
+use crate::straight::either;
 use psn::Psn;
 use rules::Line;
 use rules::Post;

@@ -4,7 +4,7 @@ use native.Mathlib.Omega.{arith}
 use Rattle.rules.specs.declared.Outcome.{Outcome}
 use Rattle.rules.proofs.Sides.After.{leaving}
 use Rattle.message.specs.Capped.{tidy}
-use Rattle.engine.proofs.Few.{acknowledged-few}
+use Rattle.outcomes.proofs.Few.{acknowledged-few}
 use borrow.Author.Needs.{needs}
 use Rattle.engine.proofs.planning.acknowledge_plan.Statement.{statement}
 use Rattle.engine.proofs.planning.acknowledge_plan.Tie as tie

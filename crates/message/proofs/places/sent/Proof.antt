@@ -27,15 +27,15 @@ offset-at-requires c κs = search needs
 address-at-requires : tie.Need-address-at-requires
 address-at-requires c κs = search needs
 
-less-requires : tie.Need-less-requires
-less-requires c κs = search needs
+rest-of-requires : tie.Need-rest-of-requires
+rest-of-requires c κs = search needs
 
 returns : tie.Need-returns
 unfolding sentBy cut
 returns c =
     simp (
       sym (c .before .before .before .before .before .before .before .is-read .ensures) ∙ c .before .before .before .before .before .before .if1 .taken,
-      c .less .ensures,
+      c .rest-of .ensures,
       c .before .address-at .ensures,
       c .before .before .offset-at .ensures,
       c .before .before .before .before .unanswered .ensures,
@@ -59,6 +59,6 @@ sent-spec =
     cast-offset-at
     offset-at-requires
     address-at-requires
-    less-requires
+    rest-of-requires
     returns
     returns-2)

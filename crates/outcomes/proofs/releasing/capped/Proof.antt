@@ -1,0 +1,17 @@
+use Rattle.message.specs.Capped.{capped}
+use borrow.Author.Needs.{needs}
+use Rattle.outcomes.proofs.releasing.capped.Statement.{statement}
+use Rattle.outcomes.proofs.releasing.capped.Tie as tie
+
+smaller-requires : tie.Need-smaller-requires
+smaller-requires c κs = search needs
+
+smaller-requires-2 : tie.Need-smaller-requires-2
+smaller-requires-2 c κs = search needs
+
+returns : tie.Need-returns
+unfolding capped
+returns c = cc
+
+pub capped-spec : {M : Type 1} → statement M
+capped-spec = tie.close (tie.spec smaller-requires smaller-requires-2 returns)

@@ -1,0 +1,11 @@
+pub mod Hung
+pub mod Moved
+pub mod Kept
+pub mod Completed
+pub mod Rear
+pub mod Left
+pub mod Put
+pub mod Joined
+pub mod Placing
+pub mod Recorded
+pub mod Emitted
