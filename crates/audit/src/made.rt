@@ -1,6 +1,4 @@
 // A record, compared field by field with the one that must stand there. That one is not built: its offset may pass 32 bits.
-use message::when;
-use message::when_wide;
 use message::both;
 use message::has_immediate;
 use message::has_reth;
@@ -8,6 +6,8 @@ use message::length_at;
 use message::mtu;
 use message::opcode_at;
 use message::psns_for;
+use message::when;
+use message::when_wide;
 use psn::Psn;
 use rules::Packet;
 use rules::Post;

@@ -1,21 +1,20 @@
 -- The plan of a request that is not refused does what the rules' effect says.
 use mathlib.Core.Path.{_≡_, refl, sym, ap, _∙_}
-use mathlib.Core.Bool.{Bool, true, false, not, _&&_, _||_, true≢false}
-use mathlib.Core.List.{List, [], _∷_}
-use Prim.Native.Nat.{ℕ, zero, suc, _+_, _-_, _*_, _%_, _^_, _≤_, _<_, min}
+use mathlib.Core.Bool.{true, false, not, _&&_}
+use mathlib.Core.List.{List}
+use Prim.Native.Nat.{ℕ, _+_, _-_, _*_, _%_, _^_, _≤_, _<_, min}
 use native.Mathlib.Omega.{arith}
 use native.Mathlib.Nat.{mod-eq-of-lt, min-eq-left}
-use lib.Dec.{ltb, leb, eqb}
-use borrow.Author.Tests.{ltb-true, ltb-false, leb-false, eqb-false, not-false}
-use lib.ListN.{length, getD, take, length-drop}
-use Rattle.psn.specs.Psn.{psns, distance, before}
+use lib.Dec.{ltb, eqb}
+use borrow.Author.Tests.{ltb-true, ltb-false, leb-false, eqb-false}
+use lib.ListN.{length, length-drop}
+use Rattle.psn.specs.Psn.{psns, before}
 use Rattle.refusal.specs.Choice.{if_then_else_}
 use Rattle.refusal.proofs.Cases.{by-test, if-case, or-left, and-left, and-right}
 use Rattle.refusal.proofs.Each.{each-at}
 use Rattle.rules.specs.declared.Answer.{Answer}
 use Rattle.rules.specs.declared.Answer.the-variants.{Dropped, Done, Resending, Held, Resumed, Idle, Ended}
 use Rattle.rules.specs.declared.Outcome.{Outcome}
-use Rattle.rules.specs.declared.Packet.{Packet}
 use Rattle.rules.specs.declared.Pair.{Pair}
 use Rattle.rules.specs.declared.Post.{Post}
 use Rattle.rules.specs.declared.Standing.{Standing}
@@ -24,7 +23,7 @@ use Rattle.rules.specs.Account.{Side, U, X, N, ahead, noPacket}
 use Rattle.rules.specs.Audit.{Audit}
 use Rattle.rules.specs.Card.{small}
 use Rattle.rules.specs.Calls.{Effect, effect, placeIf, overlaid, tablesAfter}
-use Rattle.rules.specs.Emission.{ends, waiting, going, outgoing, endsAt, emitted, emissions, recordBytes, movedTo}
+use Rattle.rules.specs.Emission.{ends, waiting, going, outgoing, endsAt, emitted, emissions, recordBytes}
 use Rattle.rules.specs.Message.{slotsFor, span, packetsOf, isRead}
 use Rattle.rules.specs.Outcome.{opened, closingAll, departures, completions, messagesOf}
 use Rattle.rules.specs.Posting.{raised, posted}
@@ -40,7 +39,6 @@ use Rattle.rules.proofs.Calls.Moves.{side-at, well-of, post-fits}
 use Rattle.rules.proofs.Sides.Counts.{ack-most, timer-most}
 use Rattle.rules.proofs.Sides.Fits.{Fits, held-is, held-fit, place-fits}
 use Rattle.rules.proofs.Sides.Good.{Good, length-packets}
-use Rattle.rules.proofs.Sides.InOrder.{InOrder}
 use Rattle.rules.proofs.Sides.Order.{ahead-most}
 use Rattle.rules.proofs.Sides.Response.{response-most}
 use Rattle.message.specs.Capped.{tidy}
@@ -52,7 +50,6 @@ use Rattle.engine.specs.declared.Scan.{Scan}
 use Rattle.engine.specs.declared.Seek.{Seek}
 use Rattle.engine.specs.declared.Told.the-variants.{First, Count}
 use Rattle.engine.specs.Asked.{asked, lentOf, numbersAfter, bytesAfter}
-use Rattle.walks.specs.Acting.{Emitted, emit}
 use Rattle.outcomes.specs.Finding.{foundIn}
 use Rattle.engine.specs.Scanning.{sought, mainSeek, readSeek}
 use Rattle.outcomes.specs.Deciding.{heldBy, acknowledged, respondedTo}

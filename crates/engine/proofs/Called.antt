@@ -1,22 +1,19 @@
 -- The body of every call is the rules' call: any tables, any arguments, any buffers.
 use mathlib.Core.Path.{_≡_, refl, sym, ap, _∙_}
-use mathlib.Core.Bool.{Bool, true, false, not, true≢false}
-use mathlib.Core.List.{List, [], _∷_}
-use Prim.Native.Nat.{ℕ, _<_}
-use native.Mathlib.Omega.{arith}
+use mathlib.Core.Bool.{true, false, not, true≢false}
+use mathlib.Core.List.{List, _∷_}
+use Prim.Native.Nat.{ℕ}
 use lib.Dec.{eqb}
 use lib.ListN.{length}
-use Rattle.refusal.specs.Choice.{if_then_else_}
 use Rattle.refusal.specs.Refusals.{_gives_, firstGiven}
 use Rattle.refusal.proofs.Cases.{by-test}
 use Rattle.rules.specs.declared.Pair.{Pair}
 use Rattle.rules.specs.declared.Reply.the-variants as reply
 use Rattle.rules.specs.Account.{Side}
-use Rattle.rules.specs.Audit.{Audit}
 use Rattle.rules.specs.Calls.{effect, call}
 use Rattle.rules.specs.Card.{small}
 use Rattle.rules.specs.Passes.Tables.{passes}
-use Rattle.rules.specs.Refusals.{refusals, sideAt}
+use Rattle.rules.specs.Refusals.{refusals}
 use Rattle.rules.specs.Requests.{Request, lent}
 use Rattle.rules.specs.Slots.{Tables, pairAt, side, sides}
 use Rattle.rules.proofs.Calls.Accepted.{Accepted, accepted}
@@ -26,13 +23,11 @@ use Rattle.audit.specs.Loops.{audited}
 use Rattle.audit.proofs.Decided.{audited-is, claimed-is}
 use Rattle.engine.specs.declared.Ask.{Ask}
 use Rattle.engine.specs.declared.Ask.the-variants as ask
-use Rattle.engine.specs.declared.Plan.{Plan}
 use Rattle.engine.specs.declared.Told.the-variants.{Refused}
 use Rattle.engine.specs.Asked.{asked, lentOf, numbersAfter, bytesAfter}
-use Rattle.engine.specs.Scanning.{beginScan, mainSeek, readSeek}
 use Rattle.engine.specs.Refusing.{refusalOf}
 use Rattle.engine.specs.Planning.{resting, acceptedPlan, planOf}
-use Rattle.engine.specs.Body.{Ran, acted, scanOf, planFor, body, ruled}
+use Rattle.engine.specs.Body.{acted, scanOf, planFor, body, ruled}
 use Rattle.engine.proofs.Scanned.{scan-is}
 use Rattle.engine.proofs.Refusals.{refusal-is}
 use Rattle.engine.proofs.Plans.{refused-leaves}

@@ -21,20 +21,12 @@ use Rattle.rules.specs.Ranges.{badSettings}
 use Rattle.rules.specs.Slots.{Tables, pairAt, free, side, freed, stored}
 use Rattle.rules.specs.WholeMessages.{Allowed}
 use Rattle.rules.proofs.Slots.Freed.{freed-none}
-use Rattle.refusal.specs.Loop.{loop-done}
-use Rattle.walks.specs.declared.Joining.{Joining}
-use Rattle.walks.specs.declared.Leaving.{Leaving}
-use Rattle.walks.specs.declared.Emitting.{Emitting}
-use Rattle.engine.specs.declared.Plan.{Plan}
-use Rattle.engine.specs.declared.Told.{Told}
 use Rattle.engine.specs.declared.Told.the-variants.{Refused, Answered, First, Count}
-use Rattle.walks.specs.Acting.{Left, leave, Joined, join, Emitted, emit, emitTurn}
+use Rattle.walks.specs.Acting.{emit}
 use Rattle.walks.specs.Begun.{toFree, toPair, noPost, outward}
 use Rattle.engine.specs.Planning.{planned, resting, leavingPlan}
 use Rattle.engine.specs.Settling.{settledOf}
-use Rattle.engine.specs.Body.{Ran, acted}
-use Rattle.walks.proofs.Kept.{leave-none}
-use Rattle.walks.proofs.Put.{join-none}
+use Rattle.engine.specs.Body.{acted}
 use Rattle.walks.proofs.Left.{held-most, left-is}
 use Rattle.walks.proofs.Joined.{joined-is}
 

@@ -2,13 +2,12 @@
 use mathlib.Core.Path.{_≡_, refl, sym, ap, _∙_}
 use mathlib.Core.Bool.{Bool, true, false, not, _&&_, _||_, true≢false}
 use mathlib.Core.List.{List, [], _∷_}
-use Prim.Native.Nat.{ℕ, zero, suc, _+_, _-_, _≤_, _<_, max}
+use Prim.Native.Nat.{ℕ, _+_, _-_, max}
 use native.Mathlib.Omega.{arith}
 use lib.Dec.{ltb, leb, eqb}
 use borrow.Author.Tests.{ltb-true, ltb-false, lt-ltb, le-ltb, eq-eqb, ne-eqb, eqb-true, eqb-false, leb-false}
 use lib.ListN.{length, set, drop, length-map}
 use Rattle.psn.specs.Psn.{half, distance}
-use Rattle.refusal.specs.Choice.{if_then_else_}
 use Rattle.refusal.specs.Refusals.{Row, _gives_, firstGiven}
 use Rattle.refusal.proofs.Cases.{by-test}
 use Rattle.rules.specs.declared.Packet.{Packet}
@@ -17,15 +16,13 @@ use Rattle.rules.specs.declared.Post.{Post}
 use Rattle.rules.specs.declared.Settings.{Settings}
 use Rattle.rules.specs.declared.Standing.{Standing}
 use Rattle.rules.specs.Account.{Side, ahead, noSide}
-use Rattle.rules.specs.Audit.{Audit}
 use Rattle.rules.specs.Card.{small}
 use Rattle.rules.specs.Message.{isRead, slotsFor, psnsFor}
 use Rattle.rules.specs.Pool.{Claim, claimed, claimOf, claims}
 use Rattle.rules.specs.Ranges.{badSettings, badPsn, badPost, badResponse, overCeiling}
 use Rattle.rules.specs.Acknowledge.{inside}
 use Rattle.rules.specs.Response.{covers, readAt, unfit, misfit}
-use Rattle.rules.specs.Requests.{Request, needed, lent}
-use Rattle.rules.specs.Refusals.{sideAt, wrongState, outOfRange, anyRead, noRoomToOpen, noRoom, refusals}
+use Rattle.rules.specs.Refusals.{sideAt, wrongState, anyRead, noRoomToOpen, noRoom, refusals}
 use Rattle.rules.specs.Slots.{Tables, pairAt, side, sideOf, sides, spelled}
 use Rattle.rules.specs.Passes.Tables.{passes}
 use Rattle.rules.proofs.Calls.Accepted.{is-ready}
@@ -48,7 +45,6 @@ use Rattle.engine.specs.declared.Scan.{Scan}
 use Rattle.engine.specs.Asked.{asked, lentOf}
 use Rattle.outcomes.specs.Finding.{foundIn}
 use Rattle.engine.specs.Scanning.{sought, mainSeek, readSeek}
-use Rattle.outcomes.specs.Deciding.{bare}
 use Rattle.engine.specs.Refusing.{crowdedBy, crowded, unfitBy, refusalRows, refusalOf}
 
 -- ---- what was found, as tests

@@ -1,11 +1,11 @@
 -- A scan finds the first packet that is sought, wherever it stops.
 use mathlib.Core.Path.{_≡_, refl, sym, ap, _∙_, subst}
-use mathlib.Core.Bool.{Bool, true, false, not, _&&_, _||_, false≢true, true≢false}
+use mathlib.Core.Bool.{Bool, true, false, _||_, true≢false}
 use mathlib.Core.List.{List, [], _∷_, map}
-use Prim.Native.Nat.{ℕ, zero, suc, _-_, _≤_, _<_}
+use Prim.Native.Nat.{ℕ, zero, suc, _-_, _<_}
 use native.Mathlib.Omega.{arith}
-use lib.Dec.{ltb, eqb}
-use borrow.Author.Tests.{lt-ltb, le-ltb, ltb-true, ltb-false, eq-eqb, eqb-false}
+use lib.Dec.{ltb}
+use borrow.Author.Tests.{lt-ltb}
 use lib.ListN.{length, getD, length-map}
 use Rattle.refusal.specs.Choice.{if_then_else_}
 use Rattle.refusal.proofs.Cases.{by-test, if-case, or-left, or-right}
@@ -27,7 +27,7 @@ use Rattle.engine.specs.declared.Seek.the-variants.{Nothing, Read, Waiti
 use Rattle.outcomes.specs.declared.Found.{Found}
 use Rattle.engine.specs.declared.Search.{Search}
 use Rattle.engine.specs.declared.Scan.{Scan}
-use Rattle.engine.specs.Scanning.{sought, seekStep, isIdle, wants, searchFor, mainSeek, readSeek, beginScan, scanTurn, scanned}
+use Rattle.engine.specs.Scanning.{sought, seekStep, wants, searchFor, mainSeek, readSeek, beginScan, scanTurn, scanned}
 use Rattle.outcomes.specs.Finding.{nothingFound, foundIn}
 
 -- each step leaves fewer slots to look at

@@ -10,12 +10,12 @@ use Rattle.rules.specs.declared.Post.{Post}
 use Rattle.rules.specs.declared.Standing.{Standing}
 use Rattle.rules.specs.Message.{slotsFor}
 use Rattle.rules.specs.Posting.{raised}
-use Rattle.rules.specs.Outcome.{opened, closingAll, staying}
+use Rattle.rules.specs.Outcome.{opened, closingAll}
 use Rattle.rules.specs.Response.{placeOf}
 use Rattle.rules.specs.Timer.{timed}
 use Rattle.rules.specs.Calls.{placeIf}
 use Rattle.audit.specs.declared.Audited.{Audited}
-use Rattle.message.specs.Capped.{capped, tidy}
+use Rattle.message.specs.Capped.{tidy}
 use Rattle.engine.specs.declared.Ask.{Ask}
 use Rattle.engine.specs.declared.Ask.the-variants as ask
 use Rattle.outcomes.specs.declared.Found.{Found}

@@ -21,7 +21,6 @@ use Rattle.engine.specs.declared.Ask.{Ask}
 use Rattle.engine.specs.declared.Ask.the-variants.{Open, Post, Emit, Acknowledge, Respond, Tick, Close}
 use Rattle.engine.specs.declared.Seek.{Seek}
 use Rattle.engine.specs.declared.Seek.the-variants.{Nothing, Read, Waiting, Staying, Covering}
-use Rattle.outcomes.specs.declared.Found.{Found}
 use Rattle.outcomes.specs.Finding.{nothingFound, boundOf}
 use Rattle.engine.specs.declared.Search.{Search}
 use Rattle.engine.specs.declared.Scan.{Scan}

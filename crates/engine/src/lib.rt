@@ -1,17 +1,14 @@
 // The requester's decisions, by value: one function for each, on records alone. No table is touched here: a card lends one slot or one pair at a time, and
 // a refused call becomes a walk of no steps.
+mod beginning;
 mod planning;
 mod refusing;
 mod scanning;
 mod settling;
 
+use outcomes::Found;
 pub use planning::plan_of;
 pub use refusing::refusal;
-pub use scanning::begin_scan;
-pub use scanning::scan_step;
-pub use settling::settle;
-
-use outcomes::Found;
 use rules::Answer;
 use rules::Ends;
 use rules::Pair;
@@ -19,6 +16,9 @@ use rules::Post;
 use rules::Reply;
 use rules::Settings;
 use rules::Standing;
+pub use scanning::begin_scan;
+pub use scanning::scan_step;
+pub use settling::settle;
 use walks::Emitting;
 use walks::Joining;
 use walks::Leaving;

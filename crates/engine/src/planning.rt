@@ -3,14 +3,18 @@ use crate::Ask;
 use crate::Plan;
 use crate::Scan;
 use crate::Told;
-use message::pick;
-use message::smaller;
+use crate::beginning::no_post;
+use crate::beginning::outward;
+use crate::beginning::to_free;
+use crate::beginning::to_pair;
 use crate::refusing::refusal;
 use audit::Audited;
 use message::Card;
 use message::mtu;
+use message::pick;
 use message::psns_for;
 use message::slots_for;
+use message::smaller;
 use outcomes::Found;
 use outcomes::acknowledged;
 use outcomes::responded_to;
@@ -28,10 +32,7 @@ use rules::Pair;
 use rules::Post;
 use rules::Settings;
 use rules::Standing;
-use walks::Emitting;
-use walks::Joining;
 use walks::Leaving;
-use walks::Moving;
 ghost use mathlib.Core.Path.{_≡_};
 ghost use Prim.Native.Nat.{_+_, _^_, _≤_, _<_};
 ghost use Rattle.rules.specs.declared.Answer.the-variants.{Done};
@@ -44,85 +45,8 @@ ghost use Rattle.message.specs.Capped.{capped, tidy};
 ghost use Rattle.rules.specs.Timer.{timed};
 ghost use Rattle.engine.specs.declared.Told.the-variants.{Answered};
 ghost use Rattle.outcomes.specs.Deciding.{heldBy, acknowledged, respondedTo};
-ghost use Rattle.walks.specs.Begun.{toFree, toPair, noPost, outward};
+ghost use Rattle.walks.specs.Begun.{toPair, noPost, outward};
 ghost use Rattle.engine.specs.Planning.{planned, resting, leavingPlan, postPlan, goingOf, emitPlan, acceptedPlan, planOf};
-
-// ---- the walks
-
-// So many slots of the pair's front, to the free queue's end.
-fn to_free(p: Pair, e: Ends, released: u32, flushed: u32) -> Leaving
-    requires { ⌜ released + flushed < 2 ^ 32 ⌝ }
-    ensures { λ r. ⌜ r ≡ toFree p e released flushed ⌝ }
-{
-    let q = p.queue;
-    let moving = Moving {
-        left: released + flushed,
-        at: q.first,
-        first: e.first,
-        last: e.last,
-    };
-    Leaving {
-        moving,
-        released,
-        messages: 0,
-    }
-}
-
-// So many slots of the free queue's front, to the pair's end.
-fn to_pair(p: Pair, e: Ends, k: u32, m: Post) -> Joining
-    ensures { λ r. ⌜ r ≡ toPair p e k m ⌝ }
-{
-    let q = p.queue;
-    let t = p.standing;
-    let settings = t.settings;
-    let l = t.line;
-    let moving = Moving {
-        left: k,
-        at: e.first,
-        first: q.first,
-        last: q.last,
-    };
-    Joining {
-        moving,
-        total: k,
-        settings,
-        post: m,
-        first: l.n,
-    }
-}
-
-fn no_post() -> Post
-    ensures { λ r. ⌜ r ≡ noPost ⌝ }
-{
-    Post {
-        kind: 0,
-        immediate: false,
-        fenced: false,
-        ticket: 0,
-        offset: 0,
-        length: 0,
-        address: 0,
-        key: 0,
-        value: 0,
-    }
-}
-
-// So many packets, from the one found on.
-fn outward(p: Pair, k: u32, at: u32) -> Emitting
-    ensures { λ r. ⌜ r ≡ outward p k at ⌝ }
-{
-    let standing = p.standing;
-    let l = standing.line;
-    Emitting {
-        left: k,
-        total: k,
-        at,
-        x: l.x,
-        standing,
-    }
-}
-
-// ---- the plans
 
 // Slots leave.
 fn leaving_so(p: Pair, e: Ends, told: Told, standing: Standing, leaving: Leaving) -> Plan

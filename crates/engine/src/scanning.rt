@@ -3,8 +3,6 @@ use crate::Ask;
 use crate::Scan;
 use crate::Search;
 use crate::Seek;
-use message::less;
-use message::pick;
 use audit::Audited;
 use message::Card;
 use message::after_x;
@@ -12,6 +10,8 @@ use message::both;
 use message::covers;
 use message::either;
 use message::is_read;
+use message::less;
+use message::pick;
 use message::stays;
 use outcomes::Found;
 use outcomes::bound_of;
@@ -22,7 +22,6 @@ use rules::Standing;
 ghost use mathlib.Core.Path.{_≡_};
 ghost use Rattle.message.specs.Capped.{tidy};
 ghost use Rattle.engine.specs.Scanning.{sought, seekStep, isIdle, wants, mainSeek, readSeek, searchFor, beginScan, scanStep};
-ghost use Rattle.outcomes.specs.Finding.{nothingFound, boundOf};
 
 pub(crate) fn is_sought(t: Standing, k: Seek, p: Packet) -> bool
     ensures { λ r. ⌜ r ≡ sought (tidy t) k p ⌝ }

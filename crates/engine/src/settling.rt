@@ -2,11 +2,11 @@
 use crate::Plan;
 use crate::Settled;
 use crate::Told;
+use message::Card;
 use message::less;
 use message::pick;
 use outcomes::further;
 use outcomes::updated;
-use message::Card;
 use rules::Answer;
 use rules::Ends;
 use rules::Line;

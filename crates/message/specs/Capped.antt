@@ -1,5 +1,5 @@
 -- Numbers that code can hold whatever a host lends. On tables that pass the audit nothing is changed (`capped-same`, `tidy-same`, `place-fits`, `sent-fits`).
-use Prim.Native.Nat.{ℕ, _%_, _^_, min}
+use Prim.Native.Nat.{_%_, _^_, min}
 use Rattle.rules.specs.declared.Packet.{Packet}
 use Rattle.rules.specs.declared.Settings.{Settings}
 use Rattle.rules.specs.declared.Standing.{Standing}

@@ -1,12 +1,12 @@
 -- With what a scan has found, the decisions are the rules': a release, an acknowledgement, a read response.
-use mathlib.Core.Path.{_≡_, refl, sym, ap, _∙_}
-use mathlib.Core.Bool.{Bool, true, false, not, _&&_, true≢false}
+use mathlib.Core.Path.{_≡_, sym, ap, _∙_}
+use mathlib.Core.Bool.{Bool, true, false, not, _&&_}
 use mathlib.Core.List.{List, [], _∷_}
 use Prim.Native.Nat.{ℕ, zero, suc, _-_, _≤_, _<_}
 use native.Mathlib.Omega.{arith}
 use native.Mathlib.Nat.{not-suc-le-zero, le-of-suc-le-suc}
 use lib.Dec.{ltb, leb, eqb}
-use borrow.Author.Tests.{ltb-true, ltb-false, lt-ltb, le-ltb}
+use borrow.Author.Tests.{ltb-true, ltb-false, lt-ltb}
 use lib.ListN.{length, getD}
 use Rattle.psn.specs.Psn.{before, next}
 use Rattle.refusal.specs.Choice.{if_then_else_}
@@ -15,17 +15,15 @@ use Rattle.rules.specs.declared.Packet.{Packet}
 use Rattle.rules.specs.declared.Release.{Release}
 use Rattle.rules.specs.declared.Outcome.{Outcome}
 use Rattle.rules.specs.declared.Settings.{Settings}
-use Rattle.rules.specs.declared.Standing.{Standing}
 use Rattle.rules.specs.Account.{Side, U, ahead, noPacket}
 use Rattle.rules.specs.Ranges.{topBits, lowBits}
 use Rattle.rules.specs.Message.{unanswered}
 use Rattle.rules.specs.Release.{advanced, passedBy, release}
 use Rattle.rules.specs.Acknowledge.{inside, answered, ack, rnr, endedAfter, resending, waitOf, acknowledge}
-use Rattle.rules.specs.Response.{covers, readAt, atLast, responded, response}
+use Rattle.rules.specs.Response.{readAt, atLast, responded, response}
 use Rattle.rules.proofs.Sides.InOrder.{InOrder}
 use Rattle.rules.proofs.Sides.Order.{ahead-most}
 use Rattle.rules.proofs.Sides.Scan.{stays, released-is}
-use Rattle.outcomes.specs.declared.Found.{Found}
 use Rattle.outcomes.specs.Finding.{foundIn, boundOf}
 use Rattle.outcomes.specs.Deciding.{releaseBy, acknowledged, respondedTo}
 

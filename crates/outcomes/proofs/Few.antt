@@ -12,7 +12,7 @@ use Rattle.rules.specs.declared.Settings.{Settings}
 use Rattle.rules.specs.declared.Standing.{Standing}
 use Rattle.rules.specs.Ranges.{topBits, lowBits}
 use Rattle.rules.specs.Acknowledge.{inside, answered}
-use Rattle.rules.specs.Response.{atLast, responded}
+use Rattle.rules.specs.Response.{atLast}
 use Rattle.rules.specs.Timer.{timeoutOf, timed}
 use Rattle.rules.proofs.Sides.After.{leaving}
 use Rattle.outcomes.specs.declared.Found.{Found}

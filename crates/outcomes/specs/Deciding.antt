@@ -1,5 +1,5 @@
 -- The rules for a pair of which a scan has found what they ask for: the same rules, with "the first read" and "the first record that stays" given.
-use mathlib.Core.Bool.{Bool, true, false, not, _&&_}
+use mathlib.Core.Bool.{not, _&&_}
 use mathlib.Core.List.{[]}
 use Prim.Native.Nat.{ℕ, _-_, min}
 use lib.Dec.{ltb}

@@ -1,9 +1,5 @@
 // What an acknowledgement or a read response makes of a pair.
 use crate::Found;
-use message::less;
-use message::pick;
-use message::smaller;
-use message::span;
 use crate::releasing::further;
 use crate::releasing::release_by;
 use crate::releasing::renewed;
@@ -12,6 +8,10 @@ use crate::releasing::updated;
 use message::Card;
 use message::both;
 use message::is_inside;
+use message::less;
+use message::pick;
+use message::smaller;
+use message::span;
 use psn::Psn;
 use rules::Answer;
 use rules::Clock;
@@ -22,7 +22,6 @@ use rules::Release;
 use rules::Settings;
 use rules::Standing;
 ghost use mathlib.Core.Path.{_≡_};
-ghost use mathlib.Core.Bool.{Bool};
 ghost use Prim.Native.Nat.{_+_, _≤_, _<_, min};
 ghost use lib.Dec.{eqb};
 ghost use lib.ListN.{getD};

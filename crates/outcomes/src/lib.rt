@@ -10,9 +10,8 @@ pub use answering::responded_to;
 pub use releasing::further;
 pub use releasing::tidied;
 pub use releasing::updated;
-pub use timing::timed;
-
 use rules::Packet;
+pub use timing::timed;
 
 // The first packet of a kind in a queue: how many are left from it on (0 where there is none), its slot, and what it says.
 pub struct Found {

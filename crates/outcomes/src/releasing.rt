@@ -1,10 +1,10 @@
 // "To release before B", of a pair of which the first record that stays was found.
 use crate::Found;
+use message::both;
 use message::less;
+use message::passed_by;
 use message::pick;
 use message::smaller;
-use message::both;
-use message::passed_by;
 use message::unanswered;
 use psn::Psn;
 use rules::Clock;

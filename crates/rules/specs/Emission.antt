@@ -12,7 +12,7 @@ use Rattle.wire.specs.Header.{headerBytes, writeOf}
 use Rattle.rules.specs.declared.Packet.{Packet}
 use Rattle.rules.specs.declared.Settings.{Settings}
 use Rattle.rules.specs.declared.Standing.{Standing}
-use Rattle.rules.specs.Account.{Side, U, X, H, N, updated, further, ahead}
+use Rattle.rules.specs.Account.{Side, U, X, updated, further, ahead}
 use Rattle.rules.specs.Message.{pmtu, isRead, span, unanswered}
 
 -- where a record ends: the PSN after its last

@@ -20,7 +20,6 @@ use Rattle.rules.specs.Message.{isRead, unanswered}
 use Rattle.rules.specs.Posting.{posted}
 use Rattle.rules.specs.declared.Outcome.{Outcome}
 use Rattle.rules.specs.Outcome.{leftWith, completions, messagesOf}
-use Rattle.rules.specs.Release.{release}
 use Rattle.rules.specs.Acknowledge.{inside, acknowledge}
 use Rattle.rules.specs.Response.{unfit, response}
 use Rattle.rules.specs.Timer.{timer}

@@ -2,11 +2,10 @@
 use mathlib.Core.Path.{_≡_, refl, sym, ap, ap₂, _∙_, subst⁻¹}
 use mathlib.Core.Bool.{false}
 use mathlib.Core.List.{List, [], _∷_, _++_, map, append-assoc}
-use Prim.Native.Nat.{ℕ, zero, suc, _+_, _-_, _*_, _≤_, _<_, min}
+use Prim.Native.Nat.{ℕ, zero, suc, _+_, _-_, _*_, _≤_, _<_}
 use native.Mathlib.Omega.{arith}
 use lib.ListN.{length, getD, take, drop, length-append, length-drop, length-map}
-use lib.Dec.{ltb}
-use Rattle.refusal.specs.Choice.{if_then_else_, Each}
+use Rattle.refusal.specs.Choice.{Each}
 use Rattle.refusal.proofs.Each.{each-drop, each-both}
 use Rattle.psn.specs.Psn.{before}
 use Rattle.rules.specs.declared.Packet.{Packet}
@@ -17,7 +16,7 @@ use Rattle.rules.specs.Card.{small}
 use Rattle.rules.specs.Ranges.{badSettings}
 use Rattle.rules.specs.Account.{Side, U, X, ahead}
 use Rattle.rules.specs.Message.{readRequest}
-use Rattle.rules.specs.Emission.{ends, waiting, going, endsAt, recordBytes, emission, emissions}
+use Rattle.rules.specs.Emission.{ends, waiting, endsAt, recordBytes, emission, emissions}
 use Rattle.rules.specs.Slots.{Tables, slotAt, pairAt, queue, side, sideOf, firstOf, Linked}
 use Rattle.rules.specs.Calls.{overlaid}
 use Rattle.rules.specs.Audit.{Audit}

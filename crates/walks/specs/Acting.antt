@@ -1,5 +1,4 @@
 -- The three walks that act: slots leave a pair for the free queue's end, slots from the free queue's front join a pair, packets go out.
-use mathlib.Core.Bool.{Bool}
 use mathlib.Core.List.{List, _++_}
 use Prim.Native.Nat.{ℕ, suc, _+_, _-_, _*_, _%_, _^_}
 use lib.Dec.{ltb, leb, eqb}

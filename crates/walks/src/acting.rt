@@ -2,11 +2,11 @@
 use crate::Joining;
 use crate::Leaving;
 use crate::Moving;
-use message::less;
-use message::pick;
 use message::Card;
 use message::ends_message;
+use message::less;
 use message::packet_at;
+use message::pick;
 use rules::Slot;
 ghost use mathlib.Core.Path.{_≡_};
 ghost use Prim.Native.Nat.{_-_};

@@ -1,7 +1,7 @@
 // Packets on their way out: one step of the walk, and the record of one packet in the lent bytes.
 use crate::Emitting;
-use message::less;
 use message::ends;
+use message::less;
 use message::sent;
 use rules::Packet;
 use rules::Settings;

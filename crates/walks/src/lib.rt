@@ -12,7 +12,6 @@ pub use acting::with_link;
 pub use emission::RECORD_BYTES;
 pub use emission::emit_record;
 pub use emission::emit_step;
-
 use rules::Post;
 use rules::Settings;
 use rules::Standing;

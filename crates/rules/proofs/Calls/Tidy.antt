@@ -7,7 +7,7 @@ use Rattle.refusal.specs.Refusals.{firstGiven}
 use Rattle.rules.specs.declared.Standing.{Standing}
 use Rattle.rules.specs.Card.{Card}
 use Rattle.rules.specs.Account.{Side}
-use Rattle.rules.specs.Slots.{Tables, free, queue, side, sides}
+use Rattle.rules.specs.Slots.{Tables, free, side, sides}
 use Rattle.rules.specs.Audit.{Whole, Audit}
 use Rattle.rules.specs.Requests.{Request, opening, posting, emitting, acknowledging, responding, ticking, closing, on}
 use Rattle.rules.specs.Refusals.{sideAt, refusals}

@@ -1,7 +1,7 @@
 -- What the audit asks of one pair's side, and that every request keeps it.
 use mathlib.Core.Path.{_≡_, refl, sym, ap, _∙_}
 use mathlib.Core.Bool.{true, false, _&&_, true≢false}
-use mathlib.Core.List.{List, [], _∷_, map}
+use mathlib.Core.List.{List, [], _∷_}
 use Prim.Native.Nat.{ℕ, zero, suc, _+_, _-_, _/_, _≤_, _<_, max}
 use native.Mathlib.Omega.{arith}
 use native.Mathlib.Nat.{div-lt-iff-lt-mul}
@@ -29,7 +29,7 @@ use Rattle.rules.specs.Response.{covers, readAt, unfit, response}
 use Rattle.rules.specs.Timer.{timer}
 use Rattle.rules.specs.Pool.{claimOf}
 use Rattle.rules.specs.Order.{_or_, left, right}
-use Rattle.rules.specs.WholeMessages.{Allowed, message, Remaining, none-left}
+use Rattle.rules.specs.WholeMessages.{Allowed, Remaining, none-left}
 use Rattle.rules.specs.Audit.{Bounded, Timed}
 use Rattle.rules.proofs.Sides.After.{after}
 use Rattle.rules.proofs.Sides.InOrder.{InOrder}

@@ -6,7 +6,7 @@ use Prim.Native.Nat.{ℕ, suc, _+_, _-_, _*_, _%_, _≤_, _<_}
 use native.Mathlib.Omega.{arith}
 use lib.Dec.{eqb, ltb}
 use borrow.Author.Tests.{eqb-false, le-ltb, lt-leb, le-leb}
-use lib.ListN.{drop, replicate}
+use lib.ListN.{replicate}
 use Rattle.refusal.proofs.Each.{each-drop, each-map, each-both}
 use Rattle.refusal.specs.Choice.{if_then_else_, Each}
 use Rattle.refusal.proofs.Cases.{if-case}
@@ -25,7 +25,7 @@ use Rattle.rules.specs.Account.{U, X, ahead}
 use Rattle.rules.specs.Message.{psnsFor, opcodeAt, readRequest, packetAt, from, packetsOf, isRead, span}
 use Rattle.rules.specs.Emission.{ends, waiting, sent, padFor, headerOf}
 use Rattle.rules.specs.Slots.{Tables, side}
-use Rattle.rules.specs.WholeMessages.{message, Remaining}
+use Rattle.rules.specs.WholeMessages.{Remaining}
 use Rattle.rules.specs.Audit.{Audit}
 use Rattle.rules.proofs.Ranges.{in-range, permitted}
 use Rattle.rules.proofs.Sides.Messages.{remaining-each}
