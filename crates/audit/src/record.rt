@@ -1,4 +1,5 @@
 // A pair's record by itself: its state, its settings, its PSNs and counts, its times, and that a pair not ready holds none.
+use message::State;
 use message::bad_settings;
 use message::both;
 use message::either;
@@ -12,12 +13,6 @@ ghost use Rattle.rules.specs.Ranges.{badSettings};
 ghost use Rattle.rules.specs.Passes.Record.{boundTests, timedTests, recordPasses};
 ghost use Rattle.rules.specs.Passes.Tests.{allOf};
 
-// A pair's states.
-pub(crate) const CLOSED: u32 = 0;
-
-pub(crate) const READY: u32 = 1;
-
-const ENDED: u32 = 2;
 
 const LONGEST_HOLD: u64 = 655_360_000;
 
@@ -64,13 +59,13 @@ fn is_timed(t: Standing) -> bool
 pub(crate) fn record_passes(t: Standing, held: u32) -> bool
     ensures { λ r. ⌜ r ≡ recordPasses small t held ⌝ }
 {
-    if t.state == CLOSED {
+    if t.state == State::CLOSED {
         return held == 0;
     }
     let fair = is_bounded(t, held);
-    if t.state != READY {
+    if t.state != State::READY {
         let ok = both(fair, held == 0);
-        return both(t.state <= ENDED, ok);
+        return both(t.state <= State::ENDED, ok);
     }
     if fair {
         return is_timed(t);

@@ -1,5 +1,5 @@
 // All queues: which slots were a queue's last, how many slots are held and claimed, and whether all passed.
-use crate::record::CLOSED;
+use message::State;
 use message::Card;
 use message::both;
 use rules::Pair;
@@ -100,7 +100,7 @@ pub(crate) fn claim_by(p: Pair) -> u32
 {
     let t = p.standing;
     let q = p.queue;
-    if t.state == CLOSED {
+    if t.state == State::CLOSED {
         return 0;
     }
     let s = t.settings;

@@ -8,7 +8,7 @@ use crate::order::course_ends;
 use crate::order::course_from;
 use crate::order::course_step;
 use crate::order::line_fits;
-use crate::record::READY;
+use message::State;
 use message::both;
 use rules::Line;
 use rules::Queue;
@@ -74,7 +74,7 @@ fn ready_ends(l: Line, order: Course, messages: Stage) -> bool
 fn if_ready(state: u32, ok: bool) -> bool
     ensures { λ r. ⌜ r ≡ (if eqb state ready then ok else true) ⌝ }
 {
-    if state == READY {
+    if state == State::READY {
         return ok;
     }
     true

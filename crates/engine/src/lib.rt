@@ -1,5 +1,6 @@
 // The requester's decisions, by value: one function for each, on records alone. No table is touched here: a card lends one slot or one pair at a time, and
 // a refused call becomes a walk of no steps.
+mod asking;
 mod beginning;
 mod planning;
 mod refusing;
@@ -7,6 +8,7 @@ mod scanning;
 mod settling;
 
 use outcomes::Found;
+pub use asking::lent_to;
 pub use planning::plan_of;
 pub use refusing::refusal;
 use rules::Answer;

@@ -10,6 +10,7 @@ use crate::beginning::to_pair;
 use crate::refusing::refusal;
 use audit::Audited;
 use message::Card;
+use message::State;
 use message::mtu;
 use message::pick;
 use message::psns_for;
@@ -103,7 +104,7 @@ fn opened(s: Settings, first: u32) -> Standing
         hold: 0,
     };
     Standing {
-        state: 1,
+        state: State::READY,
         settings: s,
         line,
         clock,
@@ -278,7 +279,7 @@ fn no_standing() -> Standing
         hold: 0,
     };
     Standing {
-        state: 0,
+        state: State::CLOSED,
         settings,
         line,
         clock,

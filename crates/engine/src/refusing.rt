@@ -3,6 +3,7 @@ use crate::Ask;
 use crate::Scan;
 use audit::Audited;
 use message::Card;
+use message::State;
 use message::bad_budget;
 use message::bad_elapsed;
 use message::bad_post;
@@ -28,6 +29,7 @@ use rules::Pair;
 use rules::Post;
 use rules::Settings;
 use rules::Standing;
+use walks::RECORD_BYTES;
 ghost use mathlib.Core.Path.{_≡_};
 ghost use mathlib.Core.Bool.{not, _&&_, _||_};
 ghost use mathlib.Core.List.{[], _∷_};
@@ -43,14 +45,6 @@ ghost use Rattle.rules.specs.Ranges.{badSettings, badPsn, badPost, badBudget, b
 ghost use Rattle.rules.specs.Response.{differ, misfit};
 ghost use Rattle.message.specs.Capped.{capped, tidy};
 ghost use Rattle.engine.specs.Refusing.{crowdedBy, crowded, unfitBy, refusalRows, refusalOf};
-
-const CLOSED: u32 = 0;
-
-const READY: u32 = 1;
-// Of a completion buffer.
-const NUMBERS: usize = 512;
-// The bytes of an emission's record.
-const RECORD: usize = 48;
 
 fn row(test: bool, number: u8, rest: u8) -> u8
     ensures { λ r. ⌜ r ≡ (if test then number else rest) ⌝ }
@@ -146,7 +140,7 @@ fn open_rows(claimed: u32, state: u32, s: Settings, first: u32) -> u8
     let bad = either(settings, psn);
     let crowd = crowded_by(claimed, s.share);
     let rest = row(crowd, Refusal::ROOM, 0);
-    first_rows(state != CLOSED, bad, false, rest)
+    first_rows(state != State::CLOSED, bad, false, rest)
 }
 
 // N would come too far from U.
@@ -185,14 +179,14 @@ fn post_rows(claimed: u32, t: Standing, held: u32, reads: u32, m: Post) -> u8
     rest = row(far, Refusal::DISTANCE, rest);
     rest = row(fence, Refusal::FENCE, rest);
     rest = row(over, Refusal::CEILING, rest);
-    first_rows(t.state != READY, bad, false, rest)
+    first_rows(t.state != State::READY, bad, false, rest)
 }
 
 fn emit_rows(state: u32, budget: u32, room: usize) -> u8
     ensures { λ r. ⌜ r ≡ firstGiven (not (eqb state 1) gives 2 ∷ badBudget budget gives 3 ∷ ltb room (48 * budget) gives 4 ∷ []) ⌝ }
 {
     let bad = bad_budget(budget);
-    first_rows(state != READY, bad, room < RECORD * budget as usize, 0)
+    first_rows(state != State::READY, bad, room < RECORD_BYTES * budget as usize, 0)
 }
 
 fn acknowledge_rows(state: u32, r: u32, syndrome: u32, room: usize) -> u8
@@ -201,7 +195,7 @@ fn acknowledge_rows(state: u32, r: u32, syndrome: u32, room: usize) -> u8
     let psn = bad_psn(r);
     let kind = bad_syndrome(syndrome);
     let bad = either(psn, kind);
-    first_rows(state != READY, bad, room < NUMBERS, 0)
+    first_rows(state != State::READY, bad, room < Card::NUMBERS, 0)
 }
 
 fn respond_rows(t: Standing, f: Found, r: u32, opcode: u32, len: u32, room: usize) -> u8
@@ -217,20 +211,20 @@ fn respond_rows(t: Standing, f: Found, r: u32, opcode: u32, len: u32, room: usiz
     let bad = either(psn, kind);
     let unfit = unfit_by(t, f, r, opcode, len);
     let rest = row(unfit, Refusal::RESPONSE, 0);
-    first_rows(t.state != READY, bad, room < NUMBERS, rest)
+    first_rows(t.state != State::READY, bad, room < Card::NUMBERS, rest)
 }
 
 fn tick_rows(state: u32, elapsed: u64, room: usize) -> u8
     ensures { λ r. ⌜ r ≡ firstGiven (not (eqb state 1) gives 2 ∷ badElapsed elapsed gives 3 ∷ ltb room 512 gives 4 ∷ []) ⌝ }
 {
     let bad = bad_elapsed(elapsed);
-    first_rows(state != READY, bad, room < NUMBERS, 0)
+    first_rows(state != State::READY, bad, room < Card::NUMBERS, 0)
 }
 
 fn close_rows(state: u32, room: usize) -> u8
     ensures { λ r. ⌜ r ≡ firstGiven (eqb state 0 gives 2 ∷ ltb room 512 gives 4 ∷ []) ⌝ }
 {
-    first_rows(state == CLOSED, false, room < NUMBERS, 0)
+    first_rows(state == State::CLOSED, false, room < Card::NUMBERS, 0)
 }
 
 // The rows after 15 and 1.

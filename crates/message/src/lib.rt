@@ -57,4 +57,17 @@ impl Card {
     pub const SLOTS: u32 = 256;
     // Stands for no slot.
     pub const NONE: u32 = 256;
+    // Of a completion buffer: a ticket and a status for each slot.
+    pub const NUMBERS: usize = 512;
+}
+
+// A pair's state, as its record has it.
+pub struct State;
+
+impl State {
+    pub const CLOSED: u32 = 0;
+
+    pub const READY: u32 = 1;
+
+    pub const ENDED: u32 = 2;
 }

@@ -6,6 +6,7 @@ use crate::releasing::renewed;
 use crate::releasing::tidied;
 use crate::releasing::updated;
 use message::Card;
+use message::State;
 use message::both;
 use message::is_inside;
 use message::less;
@@ -125,7 +126,7 @@ pub(crate) fn ended_standing(t: Standing) -> Standing
     };
     let settings = t.settings;
     Standing {
-        state: 2,
+        state: State::ENDED,
         settings,
         line,
         clock,
