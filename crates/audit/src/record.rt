@@ -13,7 +13,6 @@ ghost use Rattle.rules.specs.Ranges.{badSettings};
 ghost use Rattle.rules.specs.Passes.Record.{boundTests, timedTests, recordPasses};
 ghost use Rattle.rules.specs.Passes.Tests.{allOf};
 
-
 const LONGEST_HOLD: u64 = 655_360_000;
 
 // An open pair.

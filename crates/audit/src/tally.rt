@@ -1,6 +1,6 @@
 // All queues: which slots were a queue's last, how many slots are held and claimed, and whether all passed.
-use message::State;
 use message::Card;
+use message::State;
 use message::both;
 use rules::Pair;
 use rules::Queue;

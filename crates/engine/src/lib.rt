@@ -7,8 +7,8 @@ mod refusing;
 mod scanning;
 mod settling;
 
-use outcomes::Found;
 pub use asking::lent_to;
+use outcomes::Found;
 pub use planning::plan_of;
 pub use refusing::refusal;
 use rules::Answer;

@@ -186,7 +186,12 @@ fn emit_rows(state: u32, budget: u32, room: usize) -> u8
     ensures { λ r. ⌜ r ≡ firstGiven (not (eqb state 1) gives 2 ∷ badBudget budget gives 3 ∷ ltb room (48 * budget) gives 4 ∷ []) ⌝ }
 {
     let bad = bad_budget(budget);
-    first_rows(state != State::READY, bad, room < RECORD_BYTES * budget as usize, 0)
+    first_rows(
+        state != State::READY,
+        bad,
+        room < RECORD_BYTES * budget as usize,
+        0,
+    )
 }
 
 fn acknowledge_rows(state: u32, r: u32, syndrome: u32, room: usize) -> u8
