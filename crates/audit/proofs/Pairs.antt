@@ -25,7 +25,7 @@ use Rattle.rules.proofs.Passes.Loops.{tally-turn, tally-last}
 use Rattle.rules.proofs.Passes.Stop.{not-passed, too-many, too-much}
 use Rattle.message.specs.Capped.{tidy}
 use Rattle.message.proofs.Cuts.{tidy-same}
-use Rattle.refusal.specs.Loop.{loop-done, loop-more}
+use Rattle.refusal.proofs.Loop.{loop-done, loop-more}
 use Rattle.audit.specs.Loops.{follow, auditTurn, auditPairs}
 use Rattle.audit.specs.Steps.{nextPair, walkable, openQueue, walkedEntry}
 use Rattle.audit.specs.declared.Following.{Following}

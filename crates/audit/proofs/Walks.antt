@@ -11,7 +11,7 @@ use Rattle.rules.specs.Passes.Links.{trailed}
 use Rattle.rules.specs.Passes.Queue.{walked}
 use Rattle.rules.proofs.Passes.Loops.{turn, free-turn}
 use Rattle.message.specs.Capped.{tidy}
-use Rattle.refusal.specs.Loop.{loop-done, loop-more}
+use Rattle.refusal.proofs.Loop.{loop-done, loop-more}
 use Rattle.audit.specs.Loops.{followTurn, follow, traceTurn, trace}
 use Rattle.audit.specs.declared.Following.{Following}
 use Rattle.audit.specs.declared.Tracing.{Tracing}

@@ -25,7 +25,7 @@ use Rattle.rules.specs.Card.{small}
 use Rattle.rules.specs.Calls.{Effect, effect, placeIf, overlaid, tablesAfter}
 use Rattle.rules.specs.Emission.{ends, waiting, going, outgoing, endsAt, emitted, emissions, recordBytes}
 use Rattle.rules.specs.Message.{slotsFor, span, packetsOf, isRead}
-use Rattle.rules.specs.Outcome.{opened, closingAll, departures, completions, messagesOf}
+use Rattle.rules.specs.Outcome.{staying, opened, closingAll, departures, completions, messagesOf}
 use Rattle.rules.specs.Posting.{raised, posted}
 use Rattle.rules.specs.Acknowledge.{inside, acknowledge}
 use Rattle.rules.specs.Response.{covers, readAt, placeOf, placesBefore, unfit, response}
@@ -48,11 +48,13 @@ use Rattle.engine.specs.declared.Ask.the-variants as ask
 use Rattle.outcomes.specs.declared.Found.{Found}
 use Rattle.engine.specs.declared.Scan.{Scan}
 use Rattle.engine.specs.declared.Seek.{Seek}
+use Rattle.engine.specs.declared.Seek.the-variants.{Waiting, Staying, Covering}
 use Rattle.engine.specs.declared.Told.the-variants.{First, Count}
 use Rattle.engine.specs.Asked.{asked, lentOf, numbersAfter, bytesAfter}
 use Rattle.outcomes.specs.Finding.{foundIn}
 use Rattle.engine.specs.Scanning.{sought, mainSeek, readSeek}
-use Rattle.outcomes.specs.Deciding.{heldBy, acknowledged, respondedTo}
+use Rattle.outcomes.specs.Deciding.{bare, heldAtMost, acknowledged, respondedTo}
+use Rattle.outcomes.specs.Finding.{boundOf}
 use Rattle.walks.specs.Begun.{toFree, toPair, noPost, outward}
 use Rattle.engine.specs.Planning.{planned, leavingPlan, postPlan, emitPlan, goingOf, acceptedPlan}
 use Rattle.engine.specs.Body.{Ran, acted}
@@ -103,7 +105,7 @@ module _ (at : ℕ) (t : Tables) (done out : List ℕ) (a : Audit small t) where
     good : Good small s
     good = rw (← side-at t at) (well-of small t a .good at low)
 
-    held-same : heldBy pr ≡ length (s .packets)
+    held-same : heldAtMost pr ≡ length (s .packets)
     held-same = min-eq-left (held-most t (a .whole) at low) ∙ sym (held-is t at)
 
     here : s .standing .state ≡ 1 → tidy (pr .standing) ≡ s .standing
@@ -115,19 +117,49 @@ module _ (at : ℕ) (t : Tables) (done out : List ℕ) (a : Audit small t) where
     unfolding side
     found-is ready k f e = e ∙ ap (λ (u : Standing). foundIn (sought u k) (queue t at) (s .packets)) (here ready)
 
-    acknowledged-is : s .standing .state ≡ 1 → (r y : ℕ) (f : Found) → FoundIn (mainSeek (ask.Acknowledge r y)) f
-        → acknowledged r y (heldBy pr) f (tidy (pr .standing)) ≡ acknowledge r y s
+    acknowledged-is : s .standing .state ≡ 1 → (r y : ℕ) (f : Found) → FoundIn (mainSeek (pr .standing) (ask.Acknowledge r y)) f
+        → acknowledged r y (heldAtMost pr) f (tidy (pr .standing)) ≡ acknowledge r y s
+    unfolding side sideOf acknowledge
     acknowledged-is ready r y f e =
-        (λ i. acknowledged r y (held-same i) (found-is ready (mainSeek (ask.Acknowledge r y)) f e i) (here ready i))
-        ∙ acknowledge-is s (good .ordered ready) (queue t at) r y
+        by-test (inside r (bare (pr .standing)))
+        (λ yes.
+        let found : FoundIn (Staying (boundOf r y)) f = rw yes at e in
+        (λ i. acknowledged r y (held-same i) (found-is ready (Staying (boundOf r y)) f found i) (here ready i))
+        ∙ acknowledge-is s (good .ordered ready) (queue t at) r y)
+        (λ no. rw no (ap (staying Dropped) (here ready)))
 
-    responded-is : s .standing .state ≡ 1 → (r o n : ℕ) (f g : Found) → FoundIn (mainSeek (ask.Respond r o n)) f → FoundIn (readSeek (ask.Respond r o n)) g
-        → respondedTo r (heldBy pr) f (g .packet) (tidy (pr .standing)) ≡ response r s
+    responded-is : s .standing .state ≡ 1 → (r o n : ℕ) (f g : Found) → FoundIn (mainSeek (pr .standing) (ask.Respond r o n)) f
+        → FoundIn (readSeek (pr .standing) (ask.Respond r o n)) g
+        → respondedTo r (heldAtMost pr) f (g .packet) (tidy (pr .standing)) ≡ response r s
+    unfolding side sideOf response
     responded-is ready r o n f g e d =
-        (λ i. respondedTo r (held-same i) (found-is ready (mainSeek (ask.Respond r o n)) f e i) (found-is ready (readSeek (ask.Respond r o n)) g d i .packet) (here ready i))
-        ∙ response-is s (good .ordered ready) (queue t at) r
+        by-test (inside r (bare (pr .standing)))
+        (λ yes.
+        let first : FoundIn (Staying r) f = rw yes at e in
+        let read : FoundIn (Covering r) g = rw yes at d in
+        (λ i. respondedTo r (held-same i) (found-is ready (Staying r) f first i) (found-is ready (Covering r) g read i .packet) (here ready i))
+        ∙ response-is s (good .ordered ready) (queue t at) r)
+        (λ no. rw no (ap (staying Dropped) (here ready)))
 
-    ticked-is : s .standing .state ≡ 1 → (e : ℕ) → timed e (heldBy pr) (tidy (pr .standing)) ≡ timer e s
+    -- the place that a response answers; one that is dropped has none
+    place-same : s .standing .state ≡ 1 → (r o n : ℕ) (f g : Found) → FoundIn (mainSeek (pr .standing) (ask.Respond r o n)) f
+        → FoundIn (readSeek (pr .standing) (ask.Respond r o n)) g
+        → placeIf (respondedTo r (heldAtMost pr) f (g .packet) (tidy (pr .standing)) .answer) (placeOf (tidy (pr .standing) .settings) r (g .packet))
+        ≡ placeIf (response r s .answer) (placeOf (s .standing .settings) r (readAt r s))
+    unfolding side sideOf
+    place-same ready r o n f g e d =
+        by-test (inside r (bare (pr .standing)))
+        (λ yes.
+        let read : FoundIn (Covering r) g = rw yes at d in
+        λ i. placeIf (responded-is ready r o n f g e d i .answer) (placeOf (here ready i .settings) r (found-is ready (Covering r) g read i .packet)))
+        (λ shut.
+        ap (λ (x : Answer). placeIf x (placeOf (tidy (pr .standing) .settings) r (g .packet))) (drops shut)
+        ∙ sym (ap (λ (x : Answer). placeIf x (placeOf (s .standing .settings) r (readAt r s))) (sym (ap (λ (x : Outcome). x .answer) (responded-is ready r o n f g e d)) ∙ drops shut)))
+      where
+        drops : inside r (bare (pr .standing)) ≡ false → respondedTo r (heldAtMost pr) f (g .packet) (tidy (pr .standing)) .answer ≡ Dropped
+        drops shut = rw shut
+
+    ticked-is : s .standing .state ≡ 1 → (e : ℕ) → timed e (heldAtMost pr) (tidy (pr .standing)) ≡ timer e s
     unfolding timer
     ticked-is ready e = λ i. timed e (held-same i) (here ready i)
 
@@ -171,17 +203,15 @@ module _ (at : ℕ) (t : Tables) (done out : List ℕ) (a : Audit small t) where
         (here ready)
         ∙ packets-join at t done out (a .whole) low m (N s) (raised m (s .standing)) (allowed m h) (good .bounded (omega (arith, ready)) .settings) (post-room m h)
 
-    respond-is : (r o n : ℕ) (f g : Found) → FoundIn (mainSeek (ask.Respond r o n)) f → FoundIn (readSeek (ask.Respond r o n)) g
+    respond-is : (r o n : ℕ) (f g : Found) → FoundIn (mainSeek (pr .standing) (ask.Respond r o n)) f → FoundIn (readSeek (pr .standing) (ask.Respond r o n)) g
         → Accepted small (responding r o n done) at (sides t)
-        → acted at t done out (leavingPlan pr (t .ends) (respondedTo r (heldBy pr) f (g .packet) (tidy (pr .standing)))
-        (placeIf (respondedTo r (heldBy pr) f (g .packet) (tidy (pr .standing)) .answer) (placeOf (tidy (pr .standing) .settings) r (g .packet))))
+        → acted at t done out (leavingPlan pr (t .ends) (respondedTo r (heldAtMost pr) f (g .packet) (tidy (pr .standing)))
+        (placeIf (respondedTo r (heldAtMost pr) f (g .packet) (tidy (pr .standing)) .answer) (placeOf (tidy (pr .standing) .settings) r (g .packet))))
         ≡ doneWith at (ask.Respond r o n) t done out (effect (responding r o n done) s)
     respond-is r o n f g e d h =
         let ready = ready-of (h .state) in
         let fits : inside r s && unfit r o n s ≡ false = rw (side-at t at) at (h .fits) in
-        (λ i.
-        let x = responded-is ready r o n f g e d i in
-        acted at t done out (leavingPlan pr (t .ends) x (placeIf (x .answer) (placeOf (here ready i .settings) r (found-is ready (readSeek (ask.Respond r o n)) g d i .packet)))))
+        (λ i. acted at t done out (leavingPlan pr (t .ends) (responded-is ready r o n f g e d i) (place-same ready r o n f g e d i)))
         ∙ slots-leave at t done out (a .whole) low (response r s) (placeIf (response r s .answer) (placeOf (s .standing .settings) r (readAt r s)))
         (omega (arith, response-most s ready (good .ordered ready) r (leb-false psns r (or-left _ _ (h .range))) (covered r o n fits), held-is t at))
         (ltb-false (length done) 512 (h .buffer))
@@ -198,7 +228,7 @@ module _ (at : ℕ) (t : Tables) (done out : List ℕ) (a : Audit small t) where
     going-few : (budget : ℕ) → going budget s ≤ length (waiting s)
     going-few budget = if-case (λ (n : ℕ). n ≤ length (waiting s)) (ltb 0 (s .standing .clock .hold)) (λ _. omega arith) (λ _. omega arith)
 
-    emit-is : (budget : ℕ) (f : Found) → FoundIn (mainSeek (ask.Emit budget)) f → Accepted small (emitting budget out) at (sides t)
+    emit-is : (budget : ℕ) (f : Found) → FoundIn (mainSeek (pr .standing) (ask.Emit budget)) f → Accepted small (emitting budget out) at (sides t)
         → acted at t done out (emitPlan pr (t .ends) budget f) ≡ doneWith at (ask.Emit budget) t done out (effect (emitting budget out) s)
     unfolding emitted
     emit-is budget f e h =
@@ -208,16 +238,16 @@ module _ (at : ℕ) (t : Tables) (done out : List ℕ) (a : Audit small t) where
         (λ i.
         acted at t done out
         (planned Count (here ready i) (toFree pr (t .ends) 0 0) (toPair pr (t .ends) 0 noPost)
-        (outward pr (goingOf budget (here ready i) (found-is ready (mainSeek (ask.Emit budget)) f e i)) (found-is ready (mainSeek (ask.Emit budget)) f e i .slot))))
+        (outward pr (goingOf budget (here ready i) (found-is ready Waiting f e i)) (found-is ready Waiting f e i .slot))))
         ∙ ap (λ (n : ℕ). acted at t done out (planned Count (s .standing) (toFree pr (t .ends) 0 0) (toPair pr (t .ends) 0 noPost) (outward pr n first)))
         (going-found budget s (queue t at))
         ∙ packets-go at t done out (a .whole) low k first (endsAt (s .standing .settings) (X s) (outgoing budget s)) (s .standing)
         (overlaid (emissions (s .standing) (outgoing budget s)) out) (y .2, y .1, y .0)
       where
         first : ℕ
-        first = foundIn (sought (s .standing) (mainSeek (ask.Emit budget))) (queue t at) (s .packets) .slot
+        first = foundIn (sought (s .standing) Waiting) (queue t at) (s .packets) .slot
 
-    pub accepted-is : (q : Ask) (c : Scan) → FoundIn (mainSeek q) (c .main .found) → FoundIn (readSeek q) (c .read .found)
+    pub accepted-is : (q : Ask) (c : Scan) → FoundIn (mainSeek (pr .standing) q) (c .main .found) → FoundIn (readSeek (pr .standing) q) (c .read .found)
         → Accepted small (asked q (lentOf q done out)) at (sides t)
         → acted at t done out (acceptedPlan pr (t .ends) c q) ≡ doneWith at q t done out (effect (asked q (lentOf q done out)) s)
     accepted-is (ask.Open st first) c m r h = none-leaves at t done out (a .whole) low Done (opened st first)

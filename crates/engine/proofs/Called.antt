@@ -63,10 +63,10 @@ module _ (at : ℕ) (q : Ask) (t : Tables) (done out : List ℕ) where
   number : ℕ
   number = firstGiven (not (passes small t) gives 15 ∷ refusals small rq at (sides t))
 
-  number-is : refusalOf (audited t) at pr (scanOf at q t done out) q (lentOf q (length done) (length out)) ≡ number
+  number-is : refusalOf (audited t) at pr (scanOf at q t) q (lentOf q (length done) (length out)) ≡ number
   unfolding number scanOf
   number-is =
-      refusal-is t at (audited t) (audited-is t) (claimed-is t) q (scanOf at q t done out)
+      refusal-is t at (audited t) (audited-is t) (claimed-is t) q (scanOf at q t)
       (λ ok. scan-is (t .slots) (audited t) pr q ok .0) (λ ok. scan-is (t .slots) (audited t) pr q ok .1) done out
 
   -- ---- refused
@@ -82,7 +82,7 @@ module _ (at : ℕ) (q : Ask) (t : Tables) (done out : List ℕ) where
 
   -- ---- accepted
 
-  plan-accepted : eqb number 0 ≡ true → planFor at q t done out ≡ acceptedPlan pr (t .ends) (scanOf at q t done out) q
+  plan-accepted : eqb number 0 ≡ true → planFor at q t done out ≡ acceptedPlan pr (t .ends) (scanOf at q t) q
   unfolding planFor planOf
   plan-accepted e = rw (number-is, e)
 
@@ -99,11 +99,11 @@ module _ (at : ℕ) (q : Ask) (t : Tables) (done out : List ℕ) where
   ruled-accepted e = rw e (ap (λ (s : Side). doneWith at q t done out (effect rq s)) (side-at t at))
 
   acted-accepted : eqb number 0 ≡ true
-      → acted at t done out (acceptedPlan pr (t .ends) (scanOf at q t done out) q) ≡ doneWith at q t done out (effect rq (side t at))
+      → acted at t done out (acceptedPlan pr (t .ends) (scanOf at q t) q) ≡ doneWith at q t done out (effect rq (side t at))
   unfolding scanOf
   acted-accepted e =
       let ok = audited-is t ∙ passed e in
-      accepted-is at t done out (sound small t (passed e)) (taken e .pair) q (scanOf at q t done out)
+      accepted-is at t done out (sound small t (passed e)) (taken e .pair) q (scanOf at q t)
       (scan-is (t .slots) (audited t) pr q ok .0) (scan-is (t .slots) (audited t) pr q ok .1) (taken e)
 
   -- answer, every record of the tables and every byte and number of both buffers

@@ -1,10 +1,11 @@
 -- What each kind of plan comes to, once its walks have run.
-use mathlib.Core.Path.{_≡_, refl, sym, ap, _∙_}
+use mathlib.Core.Path.{_≡_, sym, ap, _∙_}
 use mathlib.Core.Bool.{false}
-use mathlib.Core.List.{List, [], _∷_}
-use Prim.Native.Nat.{ℕ, zero, suc, _+_, _-_, _%_, _^_, _≤_, _<_}
+use mathlib.Core.List.{List}
+use Prim.Native.Nat.{ℕ, _+_, _-_, _%_, _^_, _≤_, _<_}
 use native.Mathlib.Omega.{arith}
 use lib.ListN.{length, set}
+use lib.Seq.{set-getD}
 use Rattle.rules.specs.declared.Answer.{Answer}
 use Rattle.rules.specs.declared.Outcome.{Outcome}
 use Rattle.rules.specs.declared.Pair.{Pair}
@@ -30,11 +31,9 @@ use Rattle.engine.specs.Body.{acted}
 use Rattle.walks.proofs.Left.{held-most, left-is}
 use Rattle.walks.proofs.Joined.{joined-is}
 
-set-as-is : (ps : List Pair) (i : ℕ) → set ps i (pairAt ps i) ≡ ps
+as-read : (ps : List Pair) (i : ℕ) → set ps i (pairAt ps i) ≡ ps
 unfolding pairAt
-set-as-is [] i = refl
-set-as-is (p ∷ ps) zero = refl
-set-as-is (p ∷ ps) (suc i) = ap (λ (l : List Pair). p ∷ l) (set-as-is ps i)
+as-read ps i = set-getD ps i _
 
 module _ (at : ℕ) (t : Tables) (done out : List ℕ) where
   abbrev pr : Pair
@@ -44,7 +43,7 @@ module _ (at : ℕ) (t : Tables) (done out : List ℕ) where
   pub refused-leaves : (n : ℕ) (st : Standing)
       → acted at t done out (resting pr (t .ends) (Refused n) st) ≡ record { reply = reply.Refused n; tables = t; numbers = done; bytes = out }
   unfolding acted settledOf
-  refused-leaves n st = λ i. record { reply = reply.Refused n; tables = record { pairs = set-as-is (t .pairs) at i; ends = t .ends; slots = t .slots }; numbers = done; bytes = out }
+  refused-leaves n st = λ i. record { reply = reply.Refused n; tables = record { pairs = as-read (t .pairs) at i; ends = t .ends; slots = t .slots }; numbers = done; bytes = out }
 
   module _ (w : Whole small t) (low : at < small .pairs) where
     -- an answer, after so many slots have left

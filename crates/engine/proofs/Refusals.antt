@@ -1,11 +1,11 @@
 -- The refusals by value are the rules' one list, in its order.
 use mathlib.Core.Path.{_≡_, refl, sym, ap, _∙_}
-use mathlib.Core.Bool.{Bool, true, false, not, _&&_, _||_, true≢false}
+use mathlib.Core.Bool.{Bool, true, false, not, _&&_, _||_}
 use mathlib.Core.List.{List, [], _∷_}
 use Prim.Native.Nat.{ℕ, _+_, _-_, max}
 use native.Mathlib.Omega.{arith}
 use lib.Dec.{ltb, leb, eqb}
-use borrow.Author.Tests.{ltb-true, ltb-false, lt-ltb, le-ltb, eq-eqb, ne-eqb, eqb-true, eqb-false, leb-false}
+use borrow.Author.Tests.{ltb-true, ltb-false, lt-ltb, le-ltb, eq-eqb, ne-eqb, eqb-true, eqb-false, leb-false, not-false}
 use lib.ListN.{length, set, drop, length-map}
 use Rattle.psn.specs.Psn.{half, distance}
 use Rattle.refusal.specs.Refusals.{Row, _gives_, firstGiven}
@@ -44,7 +44,9 @@ use Rattle.outcomes.specs.declared.Found.{Found}
 use Rattle.engine.specs.declared.Scan.{Scan}
 use Rattle.engine.specs.Asked.{asked, lentOf}
 use Rattle.outcomes.specs.Finding.{foundIn}
-use Rattle.engine.specs.Scanning.{sought, mainSeek, readSeek}
+use Rattle.outcomes.specs.Deciding.{bare}
+use Rattle.engine.specs.Scanning.{sought, seekIf, mainSeek, readSeek}
+use Rattle.engine.proofs.Tests.{never-short}
 use Rattle.engine.specs.Refusing.{crowdedBy, crowded, unfitBy, refusalRows, refusalOf}
 
 -- ---- what was found, as tests
@@ -76,16 +78,8 @@ past-three false true c rest rest′ h = refl
 past-three false false true rest rest′ h = refl
 past-three false false false rest rest′ h = ap firstGiven (h refl refl refl)
 
-ok-of : (a : Bool) → not a ≡ false → a ≡ true
-ok-of true e = refl
-ok-of false e = absurd (true≢false e)
-
--- no number of bytes is below 0
-no-buffer : (n : ℕ) → ltb n 0 ≡ ltb 0 0
-no-buffer n = le-ltb n 0 (omega arith)
-
 is-closed : {x : ℕ} → not (eqb x 0) ≡ false → x ≡ 0
-is-closed {x} e = eqb-true x 0 (ok-of (eqb x 0) e)
+is-closed {x} e = eqb-true x 0 (not-false (eqb x 0) e)
 
 module _ (t : Tables) (at : ℕ) (v : Audited) (ok-is : v .ok ≡ passes small t) (sum-is : v .ok ≡ true → v .claimed ≡ claimed (claims (sides t))) where
   abbrev pub pr : Pair
@@ -107,7 +101,7 @@ module _ (t : Tables) (at : ℕ) (v : Audited) (ok-is : v .ok ≡ passes small t
   held-by = sym (held-is t at) ∙ ap (λ (x : Side). length (x .packets)) (sym (side-at t at))
 
   well : not (v .ok) ≡ false → Well small (sides t)
-  well e = well-of small t (sound small t (sym ok-is ∙ ok-of (v .ok) e))
+  well e = well-of small t (sound small t (sym ok-is ∙ not-false (v .ok) e))
 
   good : not (v .ok) ≡ false → leb 64 at ≡ false → Good small s
   unfolding s
@@ -121,7 +115,7 @@ module _ (t : Tables) (at : ℕ) (v : Audited) (ok-is : v .ok ≡ passes small t
       → claimed (set (claims (sides t)) at c) + max (claimOf s .share) (claimOf s .held) ≡ v .claimed + max (c .share) (c .held)
   unfolding s
   sum-set e low c =
-      rw (← claim-at (sides t) at, sum-is (ok-of (v .ok) e))
+      rw (← claim-at (sides t) at, sum-is (not-false (v .ok) e))
       (claimed-set (claims (sides t)) at c (claimOf noSide) (omega (arith, length-map (sides t) claimOf, well e .count, leb-false 64 at low)))
 
   room-open : not (v .ok) ≡ false → leb 64 at ≡ false → s .standing .state ≡ 0 → (st : Settings)
@@ -159,18 +153,31 @@ module _ (t : Tables) (at : ℕ) (v : Audited) (ok-is : v .ok ≡ passes small t
   abbrev pub FoundBy : Seek → Found → Type 0
   FoundBy seek f = v .ok ≡ true → f ≡ foundIn (sought (tidy (pr .standing)) seek) (spelled (t .slots) (pr .queue)) (sideOf (t .slots) pr .packets)
 
-  read-held : not (v .ok) ≡ false → (f : Found) → FoundBy Read f → ltb 0 (f .left) ≡ anyRead (s .packets)
-  read-held e f h =
-      ap (λ (x : Found). ltb 0 (x .left)) (h (ok-of (v .ok) e))
+  -- a fence asks whether the pair holds a read
+  fence-is : not (v .ok) ≡ false → (m : Post) (f : Found) → FoundBy (seekIf (m .fenced) Read) f → (m .fenced && ltb 0 (f .left)) ≡ (m .fenced && anyRead (s .packets))
+  fence-is e m f h =
+      by-test (m .fenced)
+      (λ fenced.
+      let found : f ≡ foundIn isRead (spelled (t .slots) (pr .queue)) (sideOf (t .slots) pr .packets) = rw fenced at (h (not-false (v .ok) e)) in
+      rw fenced
+      (ap (λ (x : Found). ltb 0 (x .left)) found
       ∙ found-some isRead (spelled (t .slots) (pr .queue)) (sideOf (t .slots) pr .packets)
-      ∙ ap anyRead packets-are
+      ∙ ap anyRead packets-are))
+      (λ no. rw no)
 
-  unfit-is : not (v .ok) ≡ false → leb 64 at ≡ false → s .standing .state ≡ 1 → (r o n : ℕ) (f : Found) → FoundBy (Covering r) f
+  inside-is : (r : ℕ) → inside r (bare (pr .standing)) ≡ inside r s
+  inside-is r = ap (λ (u : Standing). inside r (bare u)) standing-is
+
+  unfit-is : not (v .ok) ≡ false → leb 64 at ≡ false → s .standing .state ≡ 1 → (r o n : ℕ) (f : Found) → FoundBy (seekIf (inside r (bare (pr .standing))) (Covering r)) f
       → unfitBy (tidy (pr .standing)) f r o n ≡ inside r s && unfit r o n s
   unfit-is e low ready r o n f h =
-      (λ i. unfitBy (here i) (h (ok-of (v .ok) e) i) r o n)
+      by-test (inside r (bare (pr .standing)))
+      (λ yes.
+      let found : f ≡ foundIn (covers (tidy (pr .standing) .settings) r) (spelled (t .slots) (pr .queue)) (sideOf (t .slots) pr .packets) = rw yes at (h (not-false (v .ok) e)) in
+      (λ i. unfitBy (here i) (found i) r o n)
       ∙ (λ i. unfitBy (s .standing) (foundIn (covers (here i .settings) r) (spelled (t .slots) (pr .queue)) (packets-are i)) r o n)
-      ∙ ap (λ (b : Bool). inside r s && (b || misfit (s .standing .settings) r o n (readAt r s))) (found-none (covers (s .standing .settings) r) (spelled (t .slots) (pr .queue)) (s .packets))
+      ∙ ap (λ (b : Bool). inside r s && (b || misfit (s .standing .settings) r o n (readAt r s))) (found-none (covers (s .standing .settings) r) (spelled (t .slots) (pr .queue)) (s .packets)))
+      (λ no. rw (no, sym (inside-is r) ∙ no))
     where
       here : tidy (pr .standing) ≡ s .standing
       here = ready-same e low ready
@@ -188,21 +195,21 @@ module _ (t : Tables) (at : ℕ) (v : Audited) (ok-is : v .ok ≡ passes small t
       (drop 3 (refusalRows v at pr c q (lentOf q (length done) (length out))))
       (drop 2 (refusals small (asked q (lentOf q done out)) at (sides t))) e h
 
-  pub refusal-is : (q : Ask) (c : Scan) → FoundBy (mainSeek q) (c .main .found) → FoundBy (readSeek q) (c .read .found) → (done out : List ℕ)
+  pub refusal-is : (q : Ask) (c : Scan) → FoundBy (mainSeek (pr .standing) q) (c .main .found) → FoundBy (readSeek (pr .standing) q) (c .read .found) → (done out : List ℕ)
       → refusalOf v at pr c q (lentOf q (length done) (length out))
       ≡ firstGiven (not (passes small t) gives 15 ∷ refusals small (asked q (lentOf q done out)) at (sides t))
   unfolding s
   refusal-is (ask.Open st first) c m r done out =
       by-rest (ask.Open st first) c done out (ap (λ (n : ℕ). not (eqb n 0)) state-is) (λ a b w.
       λ i.
-      (badSettings small st || badPsn first) gives 3 ∷ no-buffer (length done) i gives 4 ∷ false gives 5 ∷ false gives 6 ∷ false gives 7
+      (badSettings small st || badPsn first) gives 3 ∷ never-short (length done) i gives 4 ∷ false gives 5 ∷ false gives 6 ∷ false gives 7
       ∷ (room-open a b (is-closed w) st i || false) gives 8 ∷ false gives 9 ∷ [])
   refusal-is (ask.Post m) c f r done out =
       by-rest (ask.Post m) c done out (ap (λ (n : ℕ). not (eqb n 1)) state-is) (λ a b w.
       let here = ready-same a b (is-ready w) in
       (λ i.
-      badPost m gives 3 ∷ no-buffer (length done) i gives 4 ∷ overCeiling (here i .settings) m gives 5
-      ∷ (m .fenced && read-held a (c .main .found) f i) gives 6
+      badPost m gives 3 ∷ never-short (length done) i gives 4 ∷ overCeiling (here i .settings) m gives 5
+      ∷ fence-is a m (c .main .found) f i gives 6
       ∷ ltb half (distance (here i .line .u) (here i .line .n) + psnsFor (here i .settings) m) gives 7
       ∷ crowded (v .claimed) (here i .settings) (pr .queue .held) (slotsFor (here i .settings) m) gives 8 ∷ false gives 9 ∷ [])
       ∙ (λ i.

@@ -19,7 +19,7 @@ use Rattle.rules.specs.Slots.{slotAt, follow, spelled, sideOf}
 use Rattle.rules.specs.Order.{_or_, left, right}
 use Rattle.rules.proofs.Slots.Queues.{length-follow}
 use Rattle.audit.specs.declared.Audited.{Audited}
-use Rattle.refusal.specs.Loop.{loop-done, loop-more}
+use Rattle.refusal.proofs.Loop.{loop-done, loop-more}
 use Rattle.message.specs.Capped.{tidy}
 use Rattle.engine.specs.declared.Ask.{Ask}
 use Rattle.engine.specs.declared.Seek.{Seek}
@@ -169,12 +169,31 @@ module _ (s : List Slot) (t : Standing) where
   runs (suc k) = scan-more k (runs k)
 
 -- what a call's scan has found, where the audit passed: the first such packets of its pair
-pub scan-is : (s : List Slot) (v : Audited) (p : Pair) (ask : Ask) → v .ok ≡ true
-    → (scanned s (beginScan v p ask) .main .found ≡ foundIn (sought (tidy (p .standing)) (mainSeek ask)) (spelled s (p .queue)) (sideOf s p .packets))
-    × (scanned s (beginScan v p ask) .read .found ≡ foundIn (sought (tidy (p .standing)) (readSeek ask)) (spelled s (p .queue)) (sideOf s p .packets))
-unfolding sideOf
-scan-is s v p ask ok =
-    let r = runs s (tidy (p .standing)) (p .queue .held) (beginScan v p ask) (rw ok) refl (right refl) (right refl) in (
-      ap (λ (c : Search). c .found) (r .0 ∙ ran-new s (tidy (p .standing)) (p .queue .held) (p .queue .first) (mainSeek ask)),
-      ap (λ (c : Search). c .found) (r .1 ∙ ran-new s (tidy (p .standing)) (p .queue .held) (p .queue .first) (readSeek ask)),
-    )
+module _ (s : List Slot) (v : Audited) (p : Pair) (ask : Ask) (ok : v .ok ≡ true) where
+  abbrev first : Search
+  first = searchFor (mainSeek (p .standing) ask)
+
+  abbrev second : Search
+  second = searchFor (readSeek (p .standing) ask)
+
+  abbrev over : Search → Search
+  over c = ran s (tidy (p .standing)) (p .queue .held) (p .queue .first) c
+
+  both-run : (scanned s (beginScan v p ask) .main ≡ over first) × (scanned s (beginScan v p ask) .read ≡ over second)
+  both-run =
+      by-test (wants first || wants second)
+      (λ e. runs s (tidy (p .standing)) (p .queue .held) (beginScan v p ask) (rw (ok, e)) refl (right refl) (right refl))
+      (λ e.
+      let d = loop-done (λ (x : Scan). x .left) (scanTurn s) (scan-less s) (beginScan v p ask) (rw (ok, e)) in
+      (
+        ap (λ (x : Scan). x .main) d ∙ sym (ran-idle s (tidy (p .standing)) (p .queue .held) (p .queue .first) first (right refl) (or-left (wants first) (wants second) e)),
+        ap (λ (x : Scan). x .read) d ∙ sym (ran-idle s (tidy (p .standing)) (p .queue .held) (p .queue .first) second (right refl) (or-right (wants first) (wants second) e)),
+      ))
+
+  pub scan-is : (scanned s (beginScan v p ask) .main .found ≡ foundIn (sought (tidy (p .standing)) (mainSeek (p .standing) ask)) (spelled s (p .queue)) (sideOf s p .packets))
+      × (scanned s (beginScan v p ask) .read .found ≡ foundIn (sought (tidy (p .standing)) (readSeek (p .standing) ask)) (spelled s (p .queue)) (sideOf s p .packets))
+  unfolding sideOf
+  scan-is = (
+    ap (λ (c : Search). c .found) (both-run .0 ∙ ran-new s (tidy (p .standing)) (p .queue .held) (p .queue .first) (mainSeek (p .standing) ask)),
+    ap (λ (c : Search). c .found) (both-run .1 ∙ ran-new s (tidy (p .standing)) (p .queue .held) (p .queue .first) (readSeek (p .standing) ask)),
+  )

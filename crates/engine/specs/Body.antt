@@ -49,15 +49,15 @@ module _ (at : ℕ) (t : Tables) (done out : List ℕ) (g : Plan) where
       }
 
 -- the whole call
-module _ (at : ℕ) (ask : Ask) (t : Tables) (done out : List ℕ) where
-  unfoldable pub scanOf : Scan
-  scanOf = scanned (t .slots) (beginScan (audited t) (pairAt (t .pairs) at) ask)
+unfoldable pub scanOf : ℕ → Ask → Tables → Scan
+scanOf at ask t = scanned (t .slots) (beginScan (audited t) (pairAt (t .pairs) at) ask)
 
-  unfoldable pub planFor : Plan
-  planFor = planOf (audited t) at (pairAt (t .pairs) at) (t .ends) scanOf ask (lentOf ask (length done) (length out))
+unfoldable pub planFor : ℕ → Ask → Tables → List ℕ → List ℕ → Plan
+planFor at ask t done out =
+    planOf (audited t) at (pairAt (t .pairs) at) (t .ends) (scanOf at ask t) ask (lentOf ask (length done) (length out))
 
-  unfoldable pub body : Ran
-  body = acted at t done out planFor
+unfoldable pub body : ℕ → Ask → Tables → List ℕ → List ℕ → Ran
+body at ask t done out = acted at t done out (planFor at ask t done out)
 
 -- the rules' call, with the buffer that was not lent as it was
 unfoldable pub ruled : ℕ → Ask → Tables → List ℕ → List ℕ → Ran

@@ -27,7 +27,7 @@ use Rattle.engine.specs.declared.Told.{Told}
 use Rattle.engine.specs.declared.Told.the-variants.{Refused, Answered, First, Count}
 use Rattle.engine.specs.declared.Plan.{Plan}
 use Rattle.walks.specs.Begun.{toFree, toPair, noPost, outward}
-use Rattle.outcomes.specs.Deciding.{heldBy, acknowledged, respondedTo}
+use Rattle.outcomes.specs.Deciding.{heldAtMost, acknowledged, respondedTo}
 use Rattle.engine.specs.Refusing.{refusalOf}
 
 abbrev pub planned : Told → Standing → Leaving → Joining → Emitting → Plan
@@ -61,13 +61,13 @@ abbrev pub acceptedPlan : Pair → Ends → Scan → Ask → Plan
 acceptedPlan p e c (ask.Open settings first) = resting p e (Answered Done 0) (opened settings first)
 acceptedPlan p e c (ask.Post m) = postPlan p e m
 acceptedPlan p e c (ask.Emit budget) = emitPlan p e budget (c .main .found)
-acceptedPlan p e c (ask.Acknowledge r syndrome) = leavingPlan p e (acknowledged r syndrome (heldBy p) (c .main .found) (tidy (p .standing))) 0
+acceptedPlan p e c (ask.Acknowledge r syndrome) = leavingPlan p e (acknowledged r syndrome (heldAtMost p) (c .main .found) (tidy (p .standing))) 0
 acceptedPlan p e c (ask.Respond r opcode len) =
     let t = tidy (p .standing) in
-    let o = respondedTo r (heldBy p) (c .main .found) (c .read .found .packet) t in
+    let o = respondedTo r (heldAtMost p) (c .main .found) (c .read .found .packet) t in
     leavingPlan p e o (placeIf (o .answer) (placeOf (t .settings) r (c .read .found .packet)))
-acceptedPlan p e c (ask.Tick elapsed) = leavingPlan p e (timed elapsed (heldBy p) (tidy (p .standing))) 0
-acceptedPlan p e c ask.Close = leavingPlan p e (closingAll (heldBy p)) 0
+acceptedPlan p e c (ask.Tick elapsed) = leavingPlan p e (timed elapsed (heldAtMost p) (tidy (p .standing))) 0
+acceptedPlan p e c ask.Close = leavingPlan p e (closingAll (heldAtMost p)) 0
 
 unfoldable pub planOf : Audited → ℕ → Pair → Ends → Scan → Ask → ℕ → Plan
 planOf v at p e c ask room =

@@ -11,9 +11,10 @@ use Rattle.rules.specs.declared.Slot.{Slot}
 use Rattle.rules.specs.declared.Standing.{Standing}
 use Rattle.rules.specs.Message.{isRead}
 use Rattle.rules.specs.Emission.{ends}
+use Rattle.rules.specs.Acknowledge.{inside}
 use Rattle.rules.specs.Response.{covers}
 use Rattle.rules.specs.Slots.{slotAt}
-use Rattle.rules.proofs.Sides.Scan.{stays}
+use Rattle.rules.specs.Release.{stays}
 use Rattle.audit.specs.declared.Audited.{Audited}
 use Rattle.refusal.specs.Loop.{loop}
 use Rattle.message.specs.Capped.{tidy}
@@ -22,6 +23,7 @@ use Rattle.engine.specs.declared.Ask.the-variants.{Open, Post, Emit, Ack
 use Rattle.engine.specs.declared.Seek.{Seek}
 use Rattle.engine.specs.declared.Seek.the-variants.{Nothing, Read, Waiting, Staying, Covering}
 use Rattle.outcomes.specs.Finding.{nothingFound, boundOf}
+use Rattle.outcomes.specs.Deciding.{bare}
 use Rattle.engine.specs.declared.Search.{Search}
 use Rattle.engine.specs.declared.Scan.{Scan}
 
@@ -52,38 +54,44 @@ wants c = not (isIdle (c .seek)) && eqb (c .found .left) 0
 
 -- ---- what each call seeks
 
-abbrev pub mainSeek : Ask → Seek
-mainSeek (Open settings first) = Nothing
-mainSeek (Post post) = Read
-mainSeek (Emit budget) = Waiting
-mainSeek (Acknowledge psn syndrome) = Staying (boundOf psn syndrome)
-mainSeek (Respond psn opcode length) = Staying psn
-mainSeek (Tick elapsed) = Nothing
-mainSeek Close = Nothing
+-- only where the answer turns on it: a fence is asked for; R is inside the open range
+abbrev pub seekIf : Bool → Seek → Seek
+seekIf test k = if test then k else Nothing
 
-abbrev pub readSeek : Ask → Seek
-readSeek (Open settings first) = Nothing
-readSeek (Post post) = Nothing
-readSeek (Emit budget) = Nothing
-readSeek (Acknowledge psn syndrome) = Nothing
-readSeek (Respond psn opcode length) = Covering psn
-readSeek (Tick elapsed) = Nothing
-readSeek Close = Nothing
+abbrev pub mainSeek : Standing → Ask → Seek
+mainSeek t (Open settings first) = Nothing
+mainSeek t (Post post) = seekIf (post .fenced) Read
+mainSeek t (Emit budget) = Waiting
+mainSeek t (Acknowledge psn syndrome) = seekIf (inside psn (bare t)) (Staying (boundOf psn syndrome))
+mainSeek t (Respond psn opcode length) = seekIf (inside psn (bare t)) (Staying psn)
+mainSeek t (Tick elapsed) = Nothing
+mainSeek t Close = Nothing
+
+abbrev pub readSeek : Standing → Ask → Seek
+readSeek t (Open settings first) = Nothing
+readSeek t (Post post) = Nothing
+readSeek t (Emit budget) = Nothing
+readSeek t (Acknowledge psn syndrome) = Nothing
+readSeek t (Respond psn opcode length) = seekIf (inside psn (bare t)) (Covering psn)
+readSeek t (Tick elapsed) = Nothing
+readSeek t Close = Nothing
 
 -- ---- the scan
 
 abbrev pub searchFor : Seek → Search
 searchFor k = record { seek = k; found = nothingFound }
 
--- a queue is walked only where the audit passed
+-- a queue is walked only where the audit passed and something is wanted
 abbrev pub beginScan : Audited → Pair → Ask → Scan
 beginScan v p ask =
+    let main = searchFor (mainSeek (p .standing) ask) in
+    let read = searchFor (readSeek (p .standing) ask) in
     record {
-      left = if v .ok then p .queue .held else 0;
+      left = if v .ok then (if wants main || wants read then p .queue .held else 0) else 0;
       at = p .queue .first;
       standing = p .standing;
-      main = searchFor (mainSeek ask);
-      read = searchFor (readSeek ask);
+      main = main;
+      read = read;
     }
 
 -- one slot on; it ends once nothing is wanted any more

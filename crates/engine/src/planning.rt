@@ -15,11 +15,11 @@ use message::mtu;
 use message::pick;
 use message::psns_for;
 use message::slots_for;
+use message::tidied;
 use message::smaller;
 use outcomes::Found;
 use outcomes::acknowledged;
 use outcomes::responded_to;
-use outcomes::tidied;
 use outcomes::timed;
 use outcomes::updated;
 use psn::Psn;
@@ -45,7 +45,7 @@ ghost use Rattle.rules.specs.Calls.{placeIf};
 ghost use Rattle.message.specs.Capped.{capped, tidy};
 ghost use Rattle.rules.specs.Timer.{timed};
 ghost use Rattle.engine.specs.declared.Told.the-variants.{Answered};
-ghost use Rattle.outcomes.specs.Deciding.{heldBy, acknowledged, respondedTo};
+ghost use Rattle.outcomes.specs.Deciding.{heldAtMost, acknowledged, respondedTo};
 ghost use Rattle.walks.specs.Begun.{toPair, noPost, outward};
 ghost use Rattle.engine.specs.Planning.{planned, resting, leavingPlan, postPlan, goingOf, emitPlan, acceptedPlan, planOf};
 
@@ -192,14 +192,14 @@ fn emit_plan(p: Pair, e: Ends, budget: u32, f: Found) -> Plan
 
 // No pair holds more slots than there are.
 fn held_by(p: Pair) -> u32
-    ensures { λ r. ⌜ (r ≡ heldBy p) × (r ≤ 256) ⌝ }
+    ensures { λ r. ⌜ (r ≡ heldAtMost p) × (r ≤ 256) ⌝ }
 {
     let q = p.queue;
     smaller(q.held, Card::SLOTS)
 }
 
 fn acknowledge_plan(p: Pair, e: Ends, r: u32, syndrome: u32, f: Found) -> Plan
-    ensures { λ g. ⌜ g ≡ leavingPlan p e (acknowledged r syndrome (heldBy p) f (tidy (p .standing))) 0 ⌝ }
+    ensures { λ g. ⌜ g ≡ leavingPlan p e (acknowledged r syndrome (heldAtMost p) f (tidy (p .standing))) 0 ⌝ }
 {
     let t = p.standing;
     let held = held_by(p);
@@ -231,7 +231,7 @@ fn place_of(s: Settings, r: u32, p: Packet) -> u64
 }
 
 fn respond_plan(p: Pair, e: Ends, r: u32, f: Found, read: Packet) -> Plan
-    ensures { λ g. ⌜ g ≡ leavingPlan p e (respondedTo r (heldBy p) f read (tidy (p .standing))) (placeIf (respondedTo r (heldBy p) f read (tidy (p .standing)) .answer) (placeOf (capped (p .standing .settings)) r read)) ⌝ }
+    ensures { λ g. ⌜ g ≡ leavingPlan p e (respondedTo r (heldAtMost p) f read (tidy (p .standing))) (placeIf (respondedTo r (heldAtMost p) f read (tidy (p .standing)) .answer) (placeOf (capped (p .standing .settings)) r read)) ⌝ }
 {
     let t = p.standing;
     let s = t.settings;
@@ -244,7 +244,7 @@ fn respond_plan(p: Pair, e: Ends, r: u32, f: Found, read: Packet) -> Plan
 }
 
 fn tick_plan(p: Pair, e: Ends, elapsed: u64) -> Plan
-    ensures { λ g. ⌜ g ≡ leavingPlan p e (timed elapsed (heldBy p) (tidy (p .standing))) 0 ⌝ }
+    ensures { λ g. ⌜ g ≡ leavingPlan p e (timed elapsed (heldAtMost p) (tidy (p .standing))) 0 ⌝ }
 {
     let t = p.standing;
     let held = held_by(p);
@@ -287,7 +287,7 @@ fn no_standing() -> Standing
 }
 
 fn close_plan(p: Pair, e: Ends) -> Plan
-    ensures { λ g. ⌜ g ≡ leavingPlan p e (closingAll (heldBy p)) 0 ⌝ }
+    ensures { λ g. ⌜ g ≡ leavingPlan p e (closingAll (heldAtMost p)) 0 ⌝ }
 {
     let held = held_by(p);
     let standing = no_standing();

@@ -9,19 +9,27 @@ use message::after_x;
 use message::both;
 use message::covers;
 use message::either;
+use message::is_inside;
 use message::is_read;
 use message::less;
-use message::pick;
 use message::stays;
+use message::when;
 use outcomes::Found;
 use outcomes::bound_of;
 use rules::Packet;
 use rules::Pair;
+use rules::Post;
 use rules::Slot;
 use rules::Standing;
 ghost use mathlib.Core.Path.{_≡_};
 ghost use Rattle.message.specs.Capped.{tidy};
-ghost use Rattle.engine.specs.Scanning.{sought, seekStep, isIdle, wants, mainSeek, readSeek, searchFor, beginScan, scanStep};
+ghost use mathlib.Core.Bool.{_||_};
+ghost use Rattle.refusal.specs.Choice.{if_then_else_};
+ghost use Rattle.rules.specs.Acknowledge.{inside};
+ghost use Rattle.outcomes.specs.Finding.{boundOf};
+ghost use Rattle.outcomes.specs.Deciding.{bare};
+ghost use Rattle.engine.specs.declared.Seek.the-variants.{Read, Staying, Covering};
+ghost use Rattle.engine.specs.Scanning.{seekIf, sought, seekStep, isIdle, wants, mainSeek, readSeek, searchFor, beginScan, scanStep};
 
 pub(crate) fn is_sought(t: Standing, k: Seek, p: Packet) -> bool
     ensures { λ r. ⌜ r ≡ sought (tidy t) k p ⌝ }
@@ -77,29 +85,70 @@ pub(crate) fn wants(c: Search) -> bool
     both(!idle, found.left == 0)
 }
 
-pub(crate) fn main_seek(ask: Ask) -> Seek
-    ensures { λ r. ⌜ r ≡ mainSeek ask ⌝ }
+// Only where the answer turns on it.
+fn seek_if(test: bool, k: Seek) -> Seek
+    ensures { λ r. ⌜ r ≡ seekIf test k ⌝ }
+{
+    if test {
+        return k;
+    }
+    Seek::Nothing
+}
+
+fn seek_stop(t: Standing, r: u32, b: u32) -> Seek
+    ensures { λ k. ⌜ k ≡ seekIf (inside r (bare t)) (Staying b) ⌝ }
+{
+    let line = t.line;
+    let open = is_inside(line, r);
+    let stop = Seek::Staying(b);
+    seek_if(open, stop)
+}
+
+fn seek_read(t: Standing, r: u32) -> Seek
+    ensures { λ k. ⌜ k ≡ seekIf (inside r (bare t)) (Covering r) ⌝ }
+{
+    let line = t.line;
+    let open = is_inside(line, r);
+    let read = Seek::Covering(r);
+    seek_if(open, read)
+}
+
+fn seek_acknowledged(t: Standing, r: u32, syndrome: u32) -> Seek
+    ensures { λ k. ⌜ k ≡ seekIf (inside r (bare t)) (Staying (boundOf r syndrome)) ⌝ }
+{
+    let b = bound_of(r, syndrome);
+    seek_stop(t, r, b)
+}
+
+fn seek_fence(m: Post) -> Seek
+    ensures { λ k. ⌜ k ≡ seekIf (m .fenced) Read ⌝ }
+{
+    seek_if(m.fenced, Seek::Read)
+}
+
+pub(crate) fn main_seek(t: Standing, ask: Ask) -> Seek
+    ensures { λ r. ⌜ r ≡ mainSeek t ask ⌝ }
 {
     match ask {
         Ask::Open {
             settings: _,
             first: _,
         } => Seek::Nothing,
-        Ask::Post { post: _ } => Seek::Read,
+        Ask::Post { post } => seek_fence(post),
         Ask::Emit { budget: _ } => Seek::Waiting,
-        Ask::Acknowledge { psn, syndrome } => Seek::Staying(bound_of(psn, syndrome)),
+        Ask::Acknowledge { psn, syndrome } => seek_acknowledged(t, psn, syndrome),
         Ask::Respond {
             psn,
             opcode: _,
             length: _,
-        } => Seek::Staying(psn),
+        } => seek_stop(t, psn, psn),
         Ask::Tick { elapsed: _ } => Seek::Nothing,
         Ask::Close => Seek::Nothing,
     }
 }
 
-pub(crate) fn read_seek(ask: Ask) -> Seek
-    ensures { λ r. ⌜ r ≡ readSeek ask ⌝ }
+pub(crate) fn read_seek(t: Standing, ask: Ask) -> Seek
+    ensures { λ r. ⌜ r ≡ readSeek t ask ⌝ }
 {
     match ask {
         Ask::Open {
@@ -116,7 +165,7 @@ pub(crate) fn read_seek(ask: Ask) -> Seek
             psn,
             opcode: _,
             length: _,
-        } => Seek::Covering(psn),
+        } => seek_read(t, psn),
         Ask::Tick { elapsed: _ } => Seek::Nothing,
         Ask::Close => Seek::Nothing,
     }
@@ -144,17 +193,28 @@ fn search_for(k: Seek) -> Search
     Search { seek: k, found }
 }
 
-// A queue is walked only where the audit passed.
+// How many slots are to be looked at, of so many.
+fn wanted(main: Search, read: Search, held: u32) -> u32
+    ensures { λ r. ⌜ r ≡ (if wants main || wants read then held else 0) ⌝ }
+{
+    let first = wants(main);
+    let second = wants(read);
+    let any = either(first, second);
+    when(any, held)
+}
+
+// A queue is walked only where the audit passed and something is wanted.
 pub fn begin_scan(v: Audited, p: Pair, ask: Ask) -> Scan
     ensures { λ r. ⌜ r ≡ beginScan v p ask ⌝ }
 {
     let q = p.queue;
     let standing = p.standing;
-    let left = pick(v.ok, q.held, 0);
-    let first = main_seek(ask);
-    let second = read_seek(ask);
+    let first = main_seek(standing, ask);
+    let second = read_seek(standing, ask);
     let main = search_for(first);
     let read = search_for(second);
+    let all = wanted(main, read, q.held);
+    let left = when(v.ok, all);
     Scan {
         left,
         at: q.first,
@@ -172,11 +232,8 @@ pub fn scan_step(w: Scan, i: Slot) -> Scan
     let packet = i.packet;
     let main = seek_step(standing, w.left, w.at, packet, w.main);
     let read = seek_step(standing, w.left, w.at, packet, w.read);
-    let first = wants(main);
-    let second = wants(read);
-    let wanted = either(first, second);
     let fewer = less(w.left, 1);
-    let left = pick(wanted, fewer, 0);
+    let left = wanted(main, read, fewer);
     Scan {
         left,
         at: i.link,

@@ -21,7 +21,7 @@ capped s =
 abbrev pub tidy : Standing → Standing
 tidy t = record { state = t .state; settings = capped (t .settings); line = t .line; clock = t .clock }
 
--- a packet in its fields' widths, the opcode in a header's eight bits
+-- a packet with its opcode cut to a header's eight bits and its offset to 32; the rest cannot be wider
 unfoldable pub cut : Packet → Packet
 cut p =
     record {

@@ -1,4 +1,5 @@
 // A message's sizes, packets and ranges, by value: document 01's split and its ranges for 3, computed. Every function takes any numbers.
+mod capping;
 mod opcodes;
 mod packets;
 mod places;
@@ -6,10 +7,9 @@ mod ranges;
 mod sizes;
 mod straight;
 
-pub use opcodes::carries;
+pub use capping::tidied;
 pub use opcodes::has_immediate;
 pub use opcodes::has_reth;
-pub use opcodes::is_last;
 pub use opcodes::opcode_at;
 pub use packets::READ_REQUEST;
 pub use packets::after_x;
@@ -21,7 +21,7 @@ pub use packets::passed_by;
 pub use packets::span;
 pub use packets::stays;
 pub use packets::unanswered;
-pub use places::packet_at;
+pub use places::place_at;
 pub use places::sent;
 pub use ranges::bad_budget;
 pub use ranges::bad_elapsed;
@@ -32,7 +32,6 @@ pub use ranges::bad_settings;
 pub use ranges::bad_syndrome;
 pub use ranges::is_inside;
 pub use ranges::over_ceiling;
-pub use sizes::asks_read;
 pub use sizes::length_at;
 pub use sizes::mtu;
 pub use sizes::packets_for;

@@ -8,7 +8,7 @@ ghost use Rattle.wire.specs.Opcodes.{carriesOf, hasReth, hasImmediate, isLast};
 ghost use Rattle.rules.specs.Message.{opcodeAt};
 
 // An opcode's row; numbers past a header's eight bits have the row of one that is not known.
-pub fn carries(op: u64) -> Carries
+pub(crate) fn carries(op: u64) -> Carries
     ensures { λ r. ⌜ r ≡ carriesOf op ⌝ }
 {
     if 255 < op {
@@ -31,7 +31,7 @@ pub fn has_immediate(op: u64) -> bool
     row.immediate
 }
 
-pub fn is_last(op: u64) -> bool
+pub(crate) fn is_last(op: u64) -> bool
     ensures { λ r. ⌜ r ≡ isLast op ⌝ }
 {
     let row = carries(op);

@@ -14,7 +14,7 @@ ghost use Rattle.rules.specs.Message.{isRead, isLast, span, unanswered};
 ghost use Rattle.rules.specs.Emission.{ends};
 ghost use Rattle.rules.specs.Release.{passedBy};
 ghost use Rattle.rules.specs.Response.{covers};
-ghost use Rattle.rules.proofs.Sides.Scan.{stays};
+ghost use Rattle.rules.specs.Release.{stays};
 ghost use Rattle.message.specs.Capped.{capped, tidy};
 
 pub const READ_REQUEST: u32 = 12;

@@ -81,7 +81,7 @@ fn make(op: u64, m: Post, psn: u32, offset: u32, len: u32) -> Packet
     }
 }
 
-fn split_at(s: Settings, m: Post, first: u32, i: u32) -> Packet
+fn packet_at(s: Settings, m: Post, first: u32, i: u32) -> Packet
     ensures { λ r. ⌜ r ≡ cut (packetAt (capped s) m first i) ⌝ }
 {
     let n = psns_for(s, m);
@@ -94,7 +94,7 @@ fn split_at(s: Settings, m: Post, first: u32, i: u32) -> Packet
 }
 
 // Place i of a post whose first PSN is given; a read has one place.
-pub fn packet_at(s: Settings, m: Post, first: u32, i: u32) -> Packet
+pub fn place_at(s: Settings, m: Post, first: u32, i: u32) -> Packet
     ensures { λ r. ⌜ r ≡ cut (placeAt (capped s) m first i) ⌝ }
 {
     let read = asks_read(m);
@@ -102,7 +102,7 @@ pub fn packet_at(s: Settings, m: Post, first: u32, i: u32) -> Packet
         let offset = (m.offset % 4_294_967_296) as u32;
         return make(READ_REQUEST as u64, m, first, offset, m.length);
     }
-    split_at(s, m, first, i)
+    packet_at(s, m, first, i)
 }
 
 // The bytes of a read that are answered.

@@ -1,26 +1,18 @@
 // How many packets, PSNs and slots a message takes, and how long each packet and a pair's timeout are.
+use crate::straight::smaller;
 use rules::Post;
 use rules::Settings;
 ghost use mathlib.Core.Path.{_≡_};
-ghost use Prim.Native.Nat.{_^_, _≤_, min};
+ghost use Prim.Native.Nat.{_^_, _≤_};
 ghost use Rattle.rules.specs.Message.{pmtu, packetsFor, asksRead, psnsFor, slotsFor, lengthAt};
 ghost use Rattle.rules.specs.Timer.{timeoutOf};
 ghost use Rattle.message.specs.Capped.{capped};
-
-fn least(a: u32, most: u32) -> u32
-    ensures { λ r. ⌜ r ≡ min a most ⌝ }
-{
-    if a <= most {
-        return a;
-    }
-    most
-}
 
 // The bytes that a PMTU code stands for.
 pub fn mtu(s: Settings) -> u32
     ensures { λ r. ⌜ (r ≡ pmtu (capped s)) × (128 ≤ r) × (r ≤ 4096) ⌝ }
 {
-    let code = least(s.pmtu, 5);
+    let code = smaller(s.pmtu, 5);
     128 << code
 }
 
@@ -42,7 +34,7 @@ pub fn packets_for(s: Settings, len: u32) -> u32
     parts(size, len)
 }
 
-pub fn asks_read(m: Post) -> bool
+pub(crate) fn asks_read(m: Post) -> bool
     ensures { λ r. ⌜ r ≡ asksRead m ⌝ }
 {
     m.kind == 2
@@ -90,6 +82,6 @@ pub fn length_at(s: Settings, len: u32, n: u32, i: u32) -> u32
 pub fn timeout(s: Settings) -> u64
     ensures { λ r. ⌜ (r ≡ timeoutOf (capped s)) × (r ≤ 2 ^ 43) ⌝ }
 {
-    let code = least(s.timeout, 31);
+    let code = smaller(s.timeout, 31);
     4096 << code
 }

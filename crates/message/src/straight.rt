@@ -23,7 +23,7 @@ pub fn either(a: bool, b: bool) -> bool
     b
 }
 
-// What a header needs, else 0.
+// x where the test holds, else 0.
 pub fn when(b: bool, x: u32) -> u32
     ensures { λ r. ⌜ r ≡ (if b then x else 0) ⌝ }
 {

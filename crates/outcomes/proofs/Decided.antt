@@ -23,7 +23,8 @@ use Rattle.rules.specs.Acknowledge.{inside, answered, ack, rnr, endedAfter, res
 use Rattle.rules.specs.Response.{readAt, atLast, responded, response}
 use Rattle.rules.proofs.Sides.InOrder.{InOrder}
 use Rattle.rules.proofs.Sides.Order.{ahead-most}
-use Rattle.rules.proofs.Sides.Scan.{stays, released-is}
+use Rattle.rules.specs.Release.{stays}
+use Rattle.rules.proofs.Sides.Scan.{released-is}
 use Rattle.outcomes.specs.Finding.{foundIn, boundOf}
 use Rattle.outcomes.specs.Deciding.{releaseBy, acknowledged, respondedTo}
 

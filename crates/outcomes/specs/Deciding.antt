@@ -24,8 +24,8 @@ abbrev pub bare : Standing → Side
 bare t = record { standing = t; packets = [] }
 
 -- no pair holds more slots than there are
-abbrev pub heldBy : Pair → ℕ
-heldBy p = min (p .queue .held) (small .slots)
+abbrev pub heldAtMost : Pair → ℕ
+heldAtMost p = min (p .queue .held) (small .slots)
 
 -- the release before b of a pair that holds so many packets, the first that stays being given: it stops at a read that is passed (`release-is`)
 abbrev pub releaseBy : ℕ → Found → Standing → ℕ → Release

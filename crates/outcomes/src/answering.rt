@@ -3,7 +3,6 @@ use crate::Found;
 use crate::releasing::further;
 use crate::releasing::release_by;
 use crate::releasing::renewed;
-use crate::releasing::tidied;
 use crate::releasing::updated;
 use message::Card;
 use message::State;
@@ -13,6 +12,7 @@ use message::less;
 use message::pick;
 use message::smaller;
 use message::span;
+use message::tidied;
 use psn::Psn;
 use rules::Answer;
 use rules::Clock;
@@ -313,7 +313,7 @@ fn responded(found: u32, r: u32, ending: bool, g: Release) -> Outcome
     }
 }
 
-// A read response for R, of a pair that holds no more than there are slots; p is the read that has R.
+// A read response for R, p being the read that has it; no pair holds more than there are slots.
 pub fn responded_to(r: u32, held: u32, f: Found, p: Packet, t: Standing) -> Outcome
     ensures { λ r′. ⌜ r′ ≡ respondedTo r (min held 256) f p (tidy t) ⌝ }
 {

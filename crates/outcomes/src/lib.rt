@@ -8,7 +8,6 @@ pub use answering::at_last;
 pub use answering::bound_of;
 pub use answering::responded_to;
 pub use releasing::further;
-pub use releasing::tidied;
 pub use releasing::updated;
 use rules::Packet;
 pub use timing::timed;

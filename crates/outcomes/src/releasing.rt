@@ -4,7 +4,7 @@ use message::both;
 use message::less;
 use message::passed_by;
 use message::pick;
-use message::smaller;
+use message::tidied;
 use message::unanswered;
 use psn::Psn;
 use rules::Clock;
@@ -16,41 +16,8 @@ ghost use mathlib.Core.Path.{_≡_};
 ghost use Prim.Native.Nat.{_-_, _≤_};
 ghost use Rattle.rules.specs.Account.{updated, further};
 ghost use Rattle.rules.specs.Release.{renewed, clockAt, advanced};
-ghost use Rattle.message.specs.Capped.{capped, tidy};
+ghost use Rattle.message.specs.Capped.{tidy};
 ghost use Rattle.outcomes.specs.Deciding.{releaseBy};
-
-fn capped(s: Settings) -> Settings
-    ensures { λ r. ⌜ r ≡ capped s ⌝ }
-{
-    let pkey = s.pkey % 65_536;
-    let pmtu = smaller(s.pmtu, 5);
-    let timeout = smaller(s.timeout, 31);
-    Settings {
-        far: s.far,
-        pkey,
-        pmtu,
-        share: s.share,
-        ceiling: s.ceiling,
-        retry: s.retry,
-        rnr: s.rnr,
-        timeout,
-    }
-}
-
-pub fn tidied(t: Standing) -> Standing
-    ensures { λ r. ⌜ r ≡ tidy t ⌝ }
-{
-    let given = t.settings;
-    let settings = capped(given);
-    let line = t.line;
-    let clock = t.clock;
-    Standing {
-        state: t.state,
-        settings,
-        line,
-        clock,
-    }
-}
 
 pub fn updated(line: Line, clock: Clock, t: Standing) -> Standing
     ensures { λ r. ⌜ r ≡ updated line clock t ⌝ }

@@ -2,12 +2,12 @@
 use crate::answering::back_to_u;
 use crate::answering::ended_standing;
 use crate::answering::staying;
-use crate::releasing::tidied;
 use crate::releasing::updated;
 use message::either;
 use message::less;
 use message::less_wide;
 use message::timeout;
+use message::tidied;
 use rules::Answer;
 use rules::Clock;
 use rules::Outcome;

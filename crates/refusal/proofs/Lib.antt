@@ -2,3 +2,4 @@ pub mod Below
 pub mod Cases
 pub mod Given
 pub mod Each
+pub mod Loop

@@ -32,7 +32,7 @@ resending g =
     let c = g .standing .clock in
     record { answer = Resending; released = g .released; flushed = 0; standing = backToU (c .retries) (c .rnrs) (c .hold) (g .standing) }
 
--- "Syndrome top bits 000, ACK: release before R + 1. If stopped, X becomes U, elapsed 0, answer "resending"; else "done"."
+-- after the release of "Syndrome top bits 000, ACK: release before R + 1. If stopped, X becomes U, elapsed 0, answer "resending"; else "done"."
 abbrev pub ack : Release → Outcome
 ack g =
     if g .stopped
@@ -64,15 +64,15 @@ waits =
 abbrev pub waitOf : ℕ → ℕ
 waitOf low = 10000 * getD waits low 0
 
--- by the syndrome's top bits; one that is none of these was refused, by 3. "credits (an ACK's low five bits are ignored)". `before b` is the release before b.
+-- by the syndrome's top bits; one that is none of these was refused, by 3. "credits (an ACK's low five bits are ignored)". `releasing b` is the release before b.
 -- "011, NAK codes 0 (sequence), 1 (invalid request), 2 (remote access), all recoverable as in 003: release before R, X becomes U, elapsed 0, "resending"."
 abbrev pub answered : Settings → ℕ → ℕ → ℕ → (ℕ → Release) → Outcome
-answered s r syndrome held before =
+answered s r syndrome held releasing =
     let low = lowBits syndrome in
-    if eqb (topBits syndrome) 0 then ack (before (next r))
-    else if eqb (topBits syndrome) 1 then rnr s (waitOf low) held (before r)
-    else if leb low 2 then resending (before r)
-    else endedAfter held (before r)
+    if eqb (topBits syndrome) 0 then ack (releasing (next r))
+    else if eqb (topBits syndrome) 1 then rnr s (waitOf low) held (releasing r)
+    else if leb low 2 then resending (releasing r)
+    else endedAfter held (releasing r)
 
 unfoldable pub acknowledge : ℕ → ℕ → Side → Outcome
 acknowledge r syndrome s =

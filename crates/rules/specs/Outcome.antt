@@ -1,7 +1,7 @@
 -- What an event, a timer step, an open or a close makes of a pair; completions; how a pair opens, ends and closes.
 use mathlib.Core.List.{List, [], _∷_, _++_, map}
 use Prim.Native.Nat.{ℕ, _+_}
-use lib.ListN.{length, take, drop}
+use lib.ListN.{take, drop}
 use Rattle.refusal.specs.Choice.{if_then_else_}
 use Rattle.rules.specs.declared.Packet.{Packet}
 use Rattle.rules.specs.declared.Settings.{Settings}

@@ -1,5 +1,5 @@
 -- "To release before B". "Before" and "further" go by distance from U as the call finds it.
-use mathlib.Core.Bool.{Bool, true, false, not, _&&_}
+use mathlib.Core.Bool.{Bool, true, false, not, _&&_, _||_}
 use Prim.Native.Nat.{ℕ}
 use lib.Dec.{ltb, eqb}
 use lib.ListN.{length, getD}
@@ -41,3 +41,7 @@ release b s =
     if ltb toRead (length (s .packets))
     then record { stopped = true; released = toRead; standing = advanced (unanswered t (getD (s .packets) toRead noPacket)) t }
     else record { stopped = false; released = beforeB; standing = advanced b t }
+
+-- for a walk from the front: the first record that stays ends it (`released-is`)
+abbrev pub stays : ℕ → Standing → Packet → Bool
+stays b t p = isRead p || not (before (t .line .u) (p .psn) b)

@@ -28,6 +28,7 @@ retried t = staying Resending (backToU (t .clock .retries - 1) (t .clock .rnrs) 
 
 -- "Held: if e is at least the hold, it ends, "resumed"; else subtract, "idle". Not held: if U = H or timeout code 0, "idle". Else add e; if below
 -- 4,096 × 2^code ns, "idle"; else if the retry count is 0, end the pair, "ended"; else take one, X becomes U, elapsed 0, "resending"."
+-- Of a pair that holds so many packets.
 abbrev pub timed : ℕ → ℕ → Standing → Outcome
 timed e held t =
     let l = t .line in
@@ -38,6 +39,5 @@ timed e held t =
     else if eqb (c .retries) 0 then ending held t
     else retried t
 
--- of a pair that holds so many packets
 unfoldable pub timer : ℕ → Side → Outcome
 timer e s = timed e (length (s .packets)) (s .standing)

@@ -15,7 +15,7 @@ use Rattle.rules.specs.Message.{isLast}
 use Rattle.rules.specs.Slots.{slotAt}
 use Rattle.rules.specs.Outcome.{Departure, leftWith, departures, completions, messagesOf}
 use Rattle.rules.specs.Calls.{overlaid}
-use Rattle.refusal.specs.Loop.{loop-more}
+use Rattle.refusal.proofs.Loop.{loop-more}
 use Rattle.walks.specs.Acting.{Left, statusOf, counted, completed, leaveTurn, leave}
 use Rattle.walks.proofs.Moved.{along}
 use Rattle.walks.proofs.Kept.{leavingOf, goneFrom, leave-less, leave-none}

@@ -27,7 +27,7 @@ use Rattle.rules.proofs.Sides.Fits.{Fits, held-fit}
 use Rattle.message.specs.Capped.{capped, tidy}
 use Rattle.message.specs.Places.{sentBy}
 use Rattle.message.proofs.Cuts.{capped-same}
-use Rattle.refusal.specs.Loop.{loop-done, loop-more}
+use Rattle.refusal.proofs.Loop.{loop-done, loop-more}
 use Rattle.walks.specs.Begun.{outward}
 use Rattle.walks.specs.Acting.{recordOf, placed, Emitted, emitTurn, emit}
 use Rattle.walks.proofs.Placing.{placed-behind, overlaid-behind}

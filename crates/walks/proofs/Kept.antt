@@ -8,7 +8,7 @@ use Rattle.rules.specs.declared.Slot.{Slot}
 use Rattle.rules.specs.Slots.{slotAt, relinked, holding, filled, chain}
 use Rattle.rules.proofs.Slots.Links.{relinked-packet}
 use Rattle.rules.proofs.Slots.Lists.{map-on}
-use Rattle.refusal.specs.Loop.{loop-done}
+use Rattle.refusal.proofs.Loop.{loop-done}
 use Rattle.walks.specs.declared.Moving.{Moving}
 use Rattle.walks.specs.Acting.{Left, moveStep, leaveTurn, leave}
 use Rattle.walks.proofs.Hung.{hungWith, holding-as-is}

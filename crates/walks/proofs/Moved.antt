@@ -16,7 +16,8 @@ use Rattle.rules.specs.declared.Slot.{Slot}
 use Rattle.rules.specs.Slots.{slotAt, holding, filled, times, Below, firstOf, lastOf, chain, Linked, Spells}
 use Rattle.rules.proofs.Slots.Links.{Distinct, Apart, times-append, below-append, below-take, last-append, length-chain, linked-apart, linked-chain, linked-same, chain-linked}
 use Rattle.rules.proofs.Slots.Filled.{length-filled, filled-link}
-use Rattle.refusal.specs.Loop.{loop, loop-done, loop-more}
+use Rattle.refusal.specs.Loop.{loop}
+use Rattle.refusal.proofs.Loop.{loop-done, loop-more}
 use Rattle.walks.specs.declared.Moving.{Moving}
 use Rattle.walks.specs.Acting.{moveStep}
 use Rattle.walks.proofs.Hung.{hungWith, hung-is, hung-then}

@@ -10,7 +10,7 @@ use Rattle.rules.specs.Message.{from}
 use Rattle.rules.specs.Slots.{slotAt}
 use Rattle.message.specs.Capped.{capped, cut}
 use Rattle.message.specs.Places.{placeAt}
-use Rattle.refusal.specs.Loop.{loop-done}
+use Rattle.refusal.proofs.Loop.{loop-done}
 use Rattle.walks.specs.declared.Moving.{Moving}
 use Rattle.walks.specs.declared.Joining.{Joining}
 use Rattle.walks.specs.Acting.{Joined, hung, moveStep, joinTurn, join}

@@ -35,7 +35,7 @@ hung w s = relinked (w .last) (w .at) s
 
 -- ---- leaving: "released and flushed slots join its end in PSN order"
 
--- a count in 32 bits
+-- one more, in 32 bits
 abbrev pub counted : ℕ → ℕ
 counted n = suc n % 2 ^ 32
 

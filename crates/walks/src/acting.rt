@@ -5,7 +5,7 @@ use crate::Moving;
 use message::Card;
 use message::ends_message;
 use message::less;
-use message::packet_at;
+use message::place_at;
 use message::pick;
 use rules::Slot;
 ghost use mathlib.Core.Path.{_≡_};
@@ -106,7 +106,7 @@ pub fn join_slot(w: Joining) -> Slot
 {
     let m = w.moving;
     let place = less(w.total, m.left);
-    let packet = packet_at(w.settings, w.post, w.first, place);
+    let packet = place_at(w.settings, w.post, w.first, place);
     Slot {
         link: Card::NONE,
         packet,

@@ -43,7 +43,8 @@ use Rattle.rules.proofs.Slots.Freed.{freed-queue, freed-side}
 use Rattle.rules.proofs.Slots.Queues.{pair-and-free}
 use Rattle.psn.proofs.Laws.{distance-from, distance-zero}
 use Rattle.rules.proofs.Sides.Order.{runs-end, unanswered-is, all-before, halted, none-passed, none-before, Part, whole-or-part, part-at-u, part-stops, part-some}
-use Rattle.rules.proofs.Sides.Scan.{stays, released-is}
+use Rattle.rules.specs.Release.{stays}
+use Rattle.rules.proofs.Sides.Scan.{released-is}
 use Rattle.rules.proofs.Calls.Accepted.{accepted, is-ready}
 use Rattle.rules.proofs.Calls.Moves.{side-at}
 use Rattle.rules.proofs.Errors.Before.{ahead-fails}

@@ -25,7 +25,8 @@ use Rattle.rules.proofs.Sides.InOrder.{RunsLow, StartsLow, InOrder}
 use Rattle.psn.proofs.Laws.{distance-zero, distance-from, distance-step, distance-plus}
 use Rattle.rules.proofs.Sides.After.{leaving}
 use Rattle.rules.proofs.Sides.Order.{ahead-most, whole-or-part, Part, none-before, ordered-release, part-stops}
-use Rattle.rules.proofs.Sides.Scan.{stays, released-is}
+use Rattle.rules.specs.Release.{stays}
+use Rattle.rules.proofs.Sides.Scan.{released-is}
 use Rattle.rules.proofs.Sides.Responded.{covers-first, ordered-last, ordered-inside}
 use Rattle.rules.proofs.Sides.Acknowledge.{Fine, release-keeps, again}
 

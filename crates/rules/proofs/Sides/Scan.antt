@@ -1,6 +1,6 @@
 -- What a program does to release before b: it looks from the front until a record stops it. On an ordered pair that is document 01's rule.
 use mathlib.Core.Path.{_≡_, refl, sym, ap}
-use mathlib.Core.Bool.{Bool, true, false, not, _||_, true≢false}
+use mathlib.Core.Bool.{true, false, not, true≢false}
 use mathlib.Core.List.{List, [], _∷_}
 use Prim.Native.Nat.{ℕ, suc, _+_, _≤_, _<_}
 use native.Mathlib.Omega.{arith}
@@ -14,14 +14,10 @@ use Rattle.rules.specs.declared.Standing.{Standing}
 use Rattle.psn.specs.Psn.{psns, half, distance, before}
 use Rattle.rules.specs.Account.{Side, U, N, ahead}
 use Rattle.rules.specs.Message.{isRead, span}
-use Rattle.rules.specs.Release.{passedBy, release}
+use Rattle.rules.specs.Release.{passedBy, stays, release}
 use Rattle.rules.specs.Order.{_or_, left, right}
 use Rattle.rules.proofs.Sides.InOrder.{RunsLow, InOrder}
 use Rattle.rules.proofs.Sides.Order.{runs-end, unanswered-is, halted, span-pos, Part, whole-or-part, none-passed, none-before, part-stops, part-some}
-
--- the test of a by-value step: this record stays
-abbrev pub stays : ℕ → Standing → Packet → Bool
-stays b t p = isRead p || not (before (t .line .u) (p .psn) b)
 
 module _ (t : Standing) (u-low : t .line .u < psns) (b n : ℕ) (near : distance (t .line .u) n ≤ half) where
   -- a read that is before b is passed

@@ -4,7 +4,7 @@ use native.Mathlib.Omega.{arith}
 use Rattle.rules.specs.declared.Outcome.{Outcome}
 use Rattle.rules.proofs.Sides.After.{leaving}
 use Rattle.message.specs.Capped.{tidy}
-use Rattle.outcomes.specs.Deciding.{heldBy}
+use Rattle.outcomes.specs.Deciding.{heldAtMost}
 use Rattle.outcomes.proofs.Few.{responded-few}
 use borrow.Author.Needs.{needs}
 use Rattle.engine.proofs.planning.respond_plan.Statement.{statement}
@@ -24,7 +24,7 @@ leaving-plan-requires c κs =
     let o = c .before .before in
     let a = o .before .before .before .before .args in
     subst (λ (o : Outcome). leaving o < 2 ^ 32) (sym (o .responded-to .ensures))
-    (omega (arith, responded-few (a .r) (heldBy (a .p)) (a .f) (a .read) (tidy (a .p .standing))))
+    (omega (arith, responded-few (a .r) (heldAtMost (a .p)) (a .f) (a .read) (tidy (a .p .standing))))
 
 returns : tie.Need-returns
 returns c = simp (c .leaving-plan .ensures, c .before .place-if .ensures, c .before .before .place-of .ensures, c .before .before .before .responded-to .ensures)

@@ -1,4 +1,3 @@
--- `read_seek` meets its contract, request by request.
 use borrow.Author.Needs.{needs}
 use Rattle.engine.proofs.scanning.read_seek.Statement.{statement}
 use Rattle.engine.proofs.scanning.read_seek.Tie as tie
@@ -17,6 +16,9 @@ enum-told-4 c = search needs
 
 enum-known-ask : tie.Need-enum-known-ask
 enum-known-ask c = search needs
+
+seek-read-requires : tie.Need-seek-read-requires
+seek-read-requires c κs = search needs
 
 enum-told-5 : tie.Need-enum-told-5
 enum-told-5 c = search needs
@@ -37,7 +39,7 @@ returns-4 : tie.Need-returns-4
 returns-4 c = search needs
 
 returns-5 : tie.Need-returns-5
-returns-5 c = simp (c .before .ask .given .1)
+returns-5 c = simp (c .seek-read .ensures, c .before .before .ask .given .1)
 
 returns-6 : tie.Need-returns-6
 returns-6 c = search needs
@@ -54,6 +56,7 @@ read-seek-spec =
     enum-told-3
     enum-told-4
     enum-known-ask
+    seek-read-requires
     enum-told-5
     enum-told-6
     returns

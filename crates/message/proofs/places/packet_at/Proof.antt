@@ -1,43 +1,55 @@
 -- `packet_at` meets its contract: an offset that is cut first comes to the same.
-use mathlib.Core.Path.{sym, _∙_}
 use borrow.Author.Needs.{needs}
-use Rattle.rules.specs.Message.{made, readRequest}
+use Rattle.rules.specs.Message.{packetAt}
+use Rattle.message.specs.Capped.{capped}
 use Rattle.message.proofs.Cuts.{cut-again}
 use Rattle.message.proofs.places.packet_at.Statement.{statement}
 use Rattle.message.proofs.places.packet_at.Tie as tie
 
-asks-read-requires : tie.Need-asks-read-requires
-asks-read-requires c κs = search needs
+psns-for-requires : tie.Need-psns-for-requires
+psns-for-requires c κs = search needs
 
-cast-offset : tie.Need-cast-offset
-cast-offset c = search needs
+opcode-at-requires : tie.Need-opcode-at-requires
+opcode-at-requires c κs = search needs
 
-cast-make : tie.Need-cast-make
-cast-make c = search needs
+plus-requires : tie.Need-plus-requires
+plus-requires c κs = search needs
+
+bytes-of-requires : tie.Need-bytes-of-requires
+bytes-of-requires c κs = search needs
+
+offset-at-requires : tie.Need-offset-at-requires
+offset-at-requires c κs = search needs
+
+length-at-requires : tie.Need-length-at-requires
+length-at-requires c κs = search needs
 
 make-requires : tie.Need-make-requires
 make-requires c κs = search needs
 
 returns : tie.Need-returns
 returns c =
-    let a = c .before .before .before .before .args in
-    simp (c .make .ensures, sym (c .before .before .before .asks-read .ensures) ∙ c .before .before .if1 .taken)
-    (cut-again (made readRequest (a .m) (a .first) (a .m .offset) (a .m .length)))
-
-split-at-requires : tie.Need-split-at-requires
-split-at-requires c κs = search needs
-
-returns-2 : tie.Need-returns-2
-returns-2 c = simp (c .split-at .ensures, sym (c .before .before .asks-read .ensures) ∙ c .before .if1 .left)
+    let a = c .before .before .before .before .before .before .before .args in
+    simp (
+      c .make .ensures,
+      c .before .length-at .ensures,
+      c .before .before .offset-at .ensures,
+      c .before .before .before .bytes-of .ensures .0,
+      c .before .before .before .before .plus .ensures,
+      c .before .before .before .before .before .opcode-at .ensures .0,
+      c .before .before .before .before .before .before .psns-for .ensures .0,
+    )
+    (cut-again (packetAt (capped (a .s)) (a .m) (a .first) (a .i)))
 
 pub packet-at-spec : {M : Type 1} → statement M
 packet-at-spec =
     tie.close
     (tie.spec
-    asks-read-requires
-    cast-offset
-    cast-make
+    psns-for-requires
+    opcode-at-requires
+    plus-requires
+    bytes-of-requires
+    offset-at-requires
+    length-at-requires
     make-requires
-    returns
-    split-at-requires
-    returns-2)
+    returns)

@@ -9,8 +9,8 @@ use Rattle.message.proofs.Numbers.{shifted}
 use Rattle.message.proofs.sizes.mtu.Statement.{statement}
 use Rattle.message.proofs.sizes.mtu.Tie as tie
 
-least-requires : tie.Need-least-requires
-least-requires c κs = search needs
+smaller-requires : tie.Need-smaller-requires
+smaller-requires c κs = search needs
 
 shl-result : tie.Need-shl-result
 shl-result c = search needs
@@ -20,7 +20,7 @@ unfolding capped
 returns c =
     let code = min (c .before .args .s .pmtu) 5 in
     let e = shifted 7 32 5 code (omega arith) (min-le-right (c .before .args .s .pmtu) 5) in
-    rw (c .least .ensures, e .exact, e .is) (refl, e .low, e .high)
+    rw (c .smaller .ensures, e .exact, e .is) (refl, e .low, e .high)
 
 pub mtu-spec : {M : Type 1} → statement M
-mtu-spec = tie.close (tie.spec least-requires shl-result returns)
+mtu-spec = tie.close (tie.spec smaller-requires shl-result returns)

@@ -9,8 +9,8 @@ use Rattle.message.proofs.Numbers.{shifted}
 use Rattle.message.proofs.sizes.timeout.Statement.{statement}
 use Rattle.message.proofs.sizes.timeout.Tie as tie
 
-least-requires : tie.Need-least-requires
-least-requires c κs = search needs
+smaller-requires : tie.Need-smaller-requires
+smaller-requires c κs = search needs
 
 cast-result : tie.Need-cast-result
 cast-result c = search needs
@@ -23,7 +23,7 @@ unfolding capped
 returns c =
     let code = min (c .before .args .s .timeout) 31 in
     let e = shifted 12 64 31 code (omega arith) (min-le-right (c .before .args .s .timeout) 31) in
-    rw (c .least .ensures, e .exact) (refl, rw (e .is) (e .high))
+    rw (c .smaller .ensures, e .exact) (refl, rw (e .is) (e .high))
 
 pub timeout-spec : {M : Type 1} → statement M
-timeout-spec = tie.close (tie.spec least-requires cast-result shl-result returns)
+timeout-spec = tie.close (tie.spec smaller-requires cast-result shl-result returns)

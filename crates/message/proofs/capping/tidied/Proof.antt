@@ -1,6 +1,6 @@
 use borrow.Author.Needs.{needs}
-use Rattle.outcomes.proofs.releasing.tidied.Statement.{statement}
-use Rattle.outcomes.proofs.releasing.tidied.Tie as tie
+use Rattle.message.proofs.capping.tidied.Statement.{statement}
+use Rattle.message.proofs.capping.tidied.Tie as tie
 
 capped-requires : tie.Need-capped-requires
 capped-requires c κs = search needs

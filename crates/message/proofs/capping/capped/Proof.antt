@@ -1,7 +1,7 @@
 use Rattle.message.specs.Capped.{capped}
 use borrow.Author.Needs.{needs}
-use Rattle.outcomes.proofs.releasing.capped.Statement.{statement}
-use Rattle.outcomes.proofs.releasing.capped.Tie as tie
+use Rattle.message.proofs.capping.capped.Statement.{statement}
+use Rattle.message.proofs.capping.capped.Tie as tie
 
 smaller-requires : tie.Need-smaller-requires
 smaller-requires c κs = search needs
