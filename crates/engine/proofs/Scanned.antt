@@ -184,8 +184,7 @@ module _ (s : List Slot) (v : Audited) (p : Pair) (ask : Ask) (ok : v .ok ≡ tr
       by-test (wants first || wants second)
       (λ e. runs s (tidy (p .standing)) (p .queue .held) (beginScan v p ask) (rw (ok, e)) refl (right refl) (right refl))
       (λ e.
-      let d = loop-done (λ (x : Scan). x .left) (scanTurn s) (scan-less s) (beginScan v p ask) (rw (ok, e)) in
-      (
+      let d = loop-done (λ (x : Scan). x .left) (scanTurn s) (scan-less s) (beginScan v p ask) (rw (ok, e)) in (
         ap (λ (x : Scan). x .main) d ∙ sym (ran-idle s (tidy (p .standing)) (p .queue .held) (p .queue .first) first (right refl) (or-left (wants first) (wants second) e)),
         ap (λ (x : Scan). x .read) d ∙ sym (ran-idle s (tidy (p .standing)) (p .queue .held) (p .queue .first) second (right refl) (or-right (wants first) (wants second) e)),
       ))

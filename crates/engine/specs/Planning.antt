@@ -5,6 +5,7 @@ use Rattle.refusal.specs.Choice.{if_then_else_}
 use Rattle.rules.specs.declared.Answer.the-variants.{Done}
 use Rattle.rules.specs.declared.Ends.{Ends}
 use Rattle.rules.specs.declared.Outcome.{Outcome}
+use Rattle.rules.specs.declared.Packet.{Packet}
 use Rattle.rules.specs.declared.Pair.{Pair}
 use Rattle.rules.specs.declared.Post.{Post}
 use Rattle.rules.specs.declared.Standing.{Standing}
@@ -56,16 +57,20 @@ emitPlan p e budget f =
     let t = tidy (p .standing) in
     planned Count t (toFree p e 0 0) (toPair p e 0 noPost) (outward p (goingOf budget t f) (f .slot))
 
+-- a response that is taken hands back its place
+abbrev pub respondPlan : Pair → Ends → ℕ → Found → Packet → Plan
+respondPlan p e r f read =
+    let t = tidy (p .standing) in
+    let o = respondedTo r (heldAtMost p) f read t in
+    leavingPlan p e o (placeIf (o .answer) (placeOf (t .settings) r read))
+
 -- a request that is not refused
 abbrev pub acceptedPlan : Pair → Ends → Scan → Ask → Plan
 acceptedPlan p e c (ask.Open settings first) = resting p e (Answered Done 0) (opened settings first)
 acceptedPlan p e c (ask.Post m) = postPlan p e m
 acceptedPlan p e c (ask.Emit budget) = emitPlan p e budget (c .main .found)
 acceptedPlan p e c (ask.Acknowledge r syndrome) = leavingPlan p e (acknowledged r syndrome (heldAtMost p) (c .main .found) (tidy (p .standing))) 0
-acceptedPlan p e c (ask.Respond r opcode len) =
-    let t = tidy (p .standing) in
-    let o = respondedTo r (heldAtMost p) (c .main .found) (c .read .found .packet) t in
-    leavingPlan p e o (placeIf (o .answer) (placeOf (t .settings) r (c .read .found .packet)))
+acceptedPlan p e c (ask.Respond r opcode len) = respondPlan p e r (c .main .found) (c .read .found .packet)
 acceptedPlan p e c (ask.Tick elapsed) = leavingPlan p e (timed elapsed (heldAtMost p) (tidy (p .standing))) 0
 acceptedPlan p e c ask.Close = leavingPlan p e (closingAll (heldAtMost p)) 0
 

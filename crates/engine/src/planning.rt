@@ -15,8 +15,8 @@ use message::mtu;
 use message::pick;
 use message::psns_for;
 use message::slots_for;
-use message::tidied;
 use message::smaller;
+use message::tidied;
 use outcomes::Found;
 use outcomes::acknowledged;
 use outcomes::responded_to;
@@ -45,9 +45,9 @@ ghost use Rattle.rules.specs.Calls.{placeIf};
 ghost use Rattle.message.specs.Capped.{capped, tidy};
 ghost use Rattle.rules.specs.Timer.{timed};
 ghost use Rattle.engine.specs.declared.Told.the-variants.{Answered};
-ghost use Rattle.outcomes.specs.Deciding.{heldAtMost, acknowledged, respondedTo};
+ghost use Rattle.outcomes.specs.Deciding.{heldAtMost, acknowledged};
 ghost use Rattle.walks.specs.Begun.{toPair, noPost, outward};
-ghost use Rattle.engine.specs.Planning.{planned, resting, leavingPlan, postPlan, goingOf, emitPlan, acceptedPlan, planOf};
+ghost use Rattle.engine.specs.Planning.{planned, resting, leavingPlan, postPlan, goingOf, emitPlan, respondPlan, acceptedPlan, planOf};
 
 // Slots leave.
 fn leaving_so(p: Pair, e: Ends, told: Told, standing: Standing, leaving: Leaving) -> Plan
@@ -231,7 +231,7 @@ fn place_of(s: Settings, r: u32, p: Packet) -> u64
 }
 
 fn respond_plan(p: Pair, e: Ends, r: u32, f: Found, read: Packet) -> Plan
-    ensures { λ g. ⌜ g ≡ leavingPlan p e (respondedTo r (heldAtMost p) f read (tidy (p .standing))) (placeIf (respondedTo r (heldAtMost p) f read (tidy (p .standing)) .answer) (placeOf (capped (p .standing .settings)) r read)) ⌝ }
+    ensures { λ g. ⌜ g ≡ respondPlan p e r f read ⌝ }
 {
     let t = p.standing;
     let s = t.settings;

@@ -39,7 +39,9 @@ ghost use lib.ListN.{drop};
 ghost use Rattle.psn.specs.Psn.{half, distance};
 ghost use Rattle.refusal.specs.Choice.{if_then_else_};
 ghost use Rattle.refusal.specs.Refusals.{_gives_, firstGiven};
-ghost use Rattle.rules.specs.Card.{small};
+ghost use Rattle.rules.specs.Account.{closed, ready};
+ghost use Rattle.rules.specs.Card.{small, completionBuffer};
+ghost use Rattle.rules.specs.Emission.{recordBytes};
 ghost use Rattle.rules.specs.Message.{slotsFor, psnsFor};
 ghost use Rattle.rules.specs.Ranges.{badSettings, badPsn, badPost, badBudget, badSyndrome, badResponse, badElapsed, overCeiling};
 ghost use Rattle.rules.specs.Response.{differ, misfit};
@@ -133,7 +135,7 @@ fn unfit_by(t: Standing, f: Found, r: u32, opcode: u32, len: u32) -> bool
 // ---- the rows of each request
 
 fn open_rows(claimed: u32, state: u32, s: Settings, first: u32) -> u8
-    ensures { λ r. ⌜ r ≡ firstGiven (not (eqb state 0) gives 2 ∷ (badSettings small s || badPsn first) gives 3 ∷ crowdedBy claimed (s .share) gives 8 ∷ []) ⌝ }
+    ensures { λ r. ⌜ r ≡ firstGiven (not (eqb state closed) gives 2 ∷ (badSettings small s || badPsn first) gives 3 ∷ crowdedBy claimed (s .share) gives 8 ∷ []) ⌝ }
 {
     let settings = bad_settings(s);
     let psn = bad_psn(first);
@@ -161,7 +163,7 @@ fn no_room(claimed: u32, s: Settings, held: u32, m: Post) -> bool
 
 fn post_rows(claimed: u32, t: Standing, held: u32, reads: u32, m: Post) -> u8
     ensures { λ r. ⌜ r ≡ firstGiven (
-        not (eqb (t .state) 1) gives 2
+        not (eqb (t .state) ready) gives 2
         ∷ badPost m gives 3
         ∷ overCeiling (capped (t .settings)) m gives 5
         ∷ (m .fenced && ltb 0 reads) gives 6
@@ -183,7 +185,7 @@ fn post_rows(claimed: u32, t: Standing, held: u32, reads: u32, m: Post) -> u8
 }
 
 fn emit_rows(state: u32, budget: u32, room: usize) -> u8
-    ensures { λ r. ⌜ r ≡ firstGiven (not (eqb state 1) gives 2 ∷ badBudget budget gives 3 ∷ ltb room (48 * budget) gives 4 ∷ []) ⌝ }
+    ensures { λ r. ⌜ r ≡ firstGiven (not (eqb state ready) gives 2 ∷ badBudget budget gives 3 ∷ ltb room (recordBytes * budget) gives 4 ∷ []) ⌝ }
 {
     let bad = bad_budget(budget);
     first_rows(
@@ -195,7 +197,7 @@ fn emit_rows(state: u32, budget: u32, room: usize) -> u8
 }
 
 fn acknowledge_rows(state: u32, r: u32, syndrome: u32, room: usize) -> u8
-    ensures { λ n. ⌜ n ≡ firstGiven (not (eqb state 1) gives 2 ∷ (badPsn r || badSyndrome syndrome) gives 3 ∷ ltb room 512 gives 4 ∷ []) ⌝ }
+    ensures { λ n. ⌜ n ≡ firstGiven (not (eqb state ready) gives 2 ∷ (badPsn r || badSyndrome syndrome) gives 3 ∷ ltb room (completionBuffer small) gives 4 ∷ []) ⌝ }
 {
     let psn = bad_psn(r);
     let kind = bad_syndrome(syndrome);
@@ -205,9 +207,9 @@ fn acknowledge_rows(state: u32, r: u32, syndrome: u32, room: usize) -> u8
 
 fn respond_rows(t: Standing, f: Found, r: u32, opcode: u32, len: u32, room: usize) -> u8
     ensures { λ n. ⌜ n ≡ firstGiven (
-        not (eqb (t .state) 1) gives 2
+        not (eqb (t .state) ready) gives 2
         ∷ (badPsn r || badResponse opcode) gives 3
-        ∷ ltb room 512 gives 4
+        ∷ ltb room (completionBuffer small) gives 4
         ∷ unfitBy (tidy t) f r opcode len gives 9
         ∷ []) ⌝ }
 {
@@ -220,14 +222,14 @@ fn respond_rows(t: Standing, f: Found, r: u32, opcode: u32, len: u32, room: usiz
 }
 
 fn tick_rows(state: u32, elapsed: u64, room: usize) -> u8
-    ensures { λ r. ⌜ r ≡ firstGiven (not (eqb state 1) gives 2 ∷ badElapsed elapsed gives 3 ∷ ltb room 512 gives 4 ∷ []) ⌝ }
+    ensures { λ r. ⌜ r ≡ firstGiven (not (eqb state ready) gives 2 ∷ badElapsed elapsed gives 3 ∷ ltb room (completionBuffer small) gives 4 ∷ []) ⌝ }
 {
     let bad = bad_elapsed(elapsed);
     first_rows(state != State::READY, bad, room < Card::NUMBERS, 0)
 }
 
 fn close_rows(state: u32, room: usize) -> u8
-    ensures { λ r. ⌜ r ≡ firstGiven (eqb state 0 gives 2 ∷ ltb room 512 gives 4 ∷ []) ⌝ }
+    ensures { λ r. ⌜ r ≡ firstGiven (eqb state closed gives 2 ∷ ltb room (completionBuffer small) gives 4 ∷ []) ⌝ }
 {
     first_rows(state == State::CLOSED, false, room < Card::NUMBERS, 0)
 }

@@ -20,10 +20,9 @@ use walks::Leaving;
 use walks::Moving;
 ghost use mathlib.Core.Path.{_≡_};
 ghost use Prim.Native.Nat.{_+_, min};
-ghost use Rattle.rules.specs.declared.Reply.the-variants as reply;
 ghost use Rattle.rules.specs.Emission.{movedTo};
 ghost use Rattle.walks.specs.Ended.{shorter, longer, freeLonger, freeShorter};
-ghost use Rattle.engine.specs.Settling.{settledOf};
+ghost use Rattle.engine.specs.Settling.{refusedSettled, leftSettled, joinedSettled, emittedSettled, settledOf};
 
 // A queue from whose front k slots went keeps its last, unless it is empty now.
 fn shorter(q: Queue, k: u32, w: Moving) -> Queue
@@ -94,7 +93,7 @@ fn moved_to(x: u32, t: Standing) -> Standing
 
 // Slots have left the pair for the free queue.
 fn left_settled(p: Pair, g: Plan, w: Moving, answer: Answer, messages: u32, place: u32) -> Settled
-    ensures { λ r. ⌜ r ≡ record { pair = record { standing = g .standing; queue = shorter (p .queue) (g .leaving .moving .left) w }; ends = freeLonger w; reply = reply.Answered answer messages place } ⌝ }
+    ensures { λ r. ⌜ r ≡ leftSettled p g w answer messages place ⌝ }
 {
     let standing = g.standing;
     let planned = g.leaving;
@@ -113,7 +112,7 @@ fn left_settled(p: Pair, g: Plan, w: Moving, answer: Answer, messages: u32, plac
 
 // Slots of the free queue have joined the pair.
 fn joined_settled(p: Pair, e: Ends, g: Plan, w: Moving, first: u32) -> Settled
-    ensures { λ r. ⌜ r ≡ record { pair = record { standing = g .standing; queue = longer (p .queue) (g .joining .total) w }; ends = freeShorter e w; reply = reply.First first } ⌝ }
+    ensures { λ r. ⌜ r ≡ joinedSettled p e g w first ⌝ }
 {
     let standing = g.standing;
     let planned = g.joining;
@@ -127,7 +126,7 @@ fn joined_settled(p: Pair, e: Ends, g: Plan, w: Moving, first: u32) -> Settled
 
 // Packets have gone out; every slot is where it was.
 fn emitted_settled(p: Pair, e: Ends, g: Plan, m: Emitting) -> Settled
-    ensures { λ r. ⌜ r ≡ record { pair = record { standing = movedTo (m .x) (g .standing); queue = p .queue }; ends = e; reply = reply.Count (m .total) } ⌝ }
+    ensures { λ r. ⌜ r ≡ emittedSettled p e g m ⌝ }
 {
     let stood = g.standing;
     let standing = moved_to(m.x, stood);
@@ -142,7 +141,7 @@ fn emitted_settled(p: Pair, e: Ends, g: Plan, m: Emitting) -> Settled
 }
 
 fn refused_settled(p: Pair, e: Ends, number: u8) -> Settled
-    ensures { λ r. ⌜ r ≡ record { pair = p; ends = e; reply = reply.Refused number } ⌝ }
+    ensures { λ r. ⌜ r ≡ refusedSettled p e number ⌝ }
 {
     let reply = Reply::Refused(number);
     Settled {

@@ -1,3 +1,4 @@
+-- `trail_ends` meets its contract.
 use borrow.Author.Needs.{needs}
 use Rattle.audit.proofs.links.trail_ends.Statement.{statement}
 use Rattle.audit.proofs.links.trail_ends.Tie as tie

@@ -1,3 +1,4 @@
+-- `trail_step` meets its contract.
 use borrow.Author.Needs.{needs}
 use Rattle.audit.proofs.links.trail_step.Statement.{statement}
 use Rattle.audit.proofs.links.trail_step.Tie as tie

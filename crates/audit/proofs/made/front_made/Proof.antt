@@ -1,3 +1,4 @@
+-- `front_made` meets its contract.
 use borrow.Author.Needs.{needs}
 use Rattle.audit.proofs.made.front_made.Statement.{statement}
 use Rattle.audit.proofs.made.front_made.Tie as tie

@@ -1,3 +1,4 @@
+-- `is_made` meets its contract.
 use Rattle.rules.specs.Passes.Stage.{same}
 use borrow.Author.Needs.{needs}
 use Rattle.audit.proofs.made.is_made.Statement.{statement}

@@ -1,3 +1,4 @@
+-- `is_packet_at` meets its contract.
 use Rattle.message.proofs.Numbers.{small-product}
 use native.Mathlib.Omega.{arith}
 use borrow.Author.Needs.{needs}

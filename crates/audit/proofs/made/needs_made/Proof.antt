@@ -1,3 +1,4 @@
+-- `needs_made` meets its contract.
 use borrow.Author.Needs.{needs}
 use Rattle.audit.proofs.made.needs_made.Statement.{statement}
 use Rattle.audit.proofs.made.needs_made.Tie as tie

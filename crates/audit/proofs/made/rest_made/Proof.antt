@@ -1,3 +1,4 @@
+-- `rest_made` meets its contract.
 use borrow.Author.Needs.{needs}
 use Rattle.audit.proofs.made.rest_made.Statement.{statement}
 use Rattle.audit.proofs.made.rest_made.Tie as tie

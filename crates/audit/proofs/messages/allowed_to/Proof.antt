@@ -1,3 +1,4 @@
+-- `allowed_to` meets its contract.
 use Rattle.rules.specs.Passes.Stage.{allowedTo}
 use borrow.Author.Needs.{needs}
 use Rattle.audit.proofs.messages.allowed_to.Statement.{statement}

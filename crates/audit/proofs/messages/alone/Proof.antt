@@ -1,3 +1,4 @@
+-- `alone` meets its contract.
 use borrow.Author.Needs.{needs}
 use Rattle.audit.proofs.messages.alone.Statement.{statement}
 use Rattle.audit.proofs.messages.alone.Tie as tie

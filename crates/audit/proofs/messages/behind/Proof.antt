@@ -1,3 +1,4 @@
+-- `behind` meets its contract.
 use borrow.Author.Needs.{needs}
 use Rattle.audit.proofs.messages.behind.Statement.{statement}
 use Rattle.audit.proofs.messages.behind.Tie as tie

@@ -1,3 +1,4 @@
+-- `closes` meets its contract.
 use mathlib.Core.Path.{ap}
 use native.Mathlib.Omega.{arith}
 use Rattle.rules.specs.declared.Post.{Post}

@@ -1,3 +1,4 @@
+-- `closes_as` meets its contract.
 use borrow.Author.Needs.{needs}
 use Rattle.audit.proofs.messages.closes_as.Statement.{statement}
 use Rattle.audit.proofs.messages.closes_as.Tie as tie

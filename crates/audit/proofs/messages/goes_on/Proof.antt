@@ -1,3 +1,4 @@
+-- `goes_on` meets its contract.
 use Rattle.rules.specs.Passes.Stage.{goesOn}
 use Rattle.message.specs.Capped.{capped}
 use Rattle.message.proofs.Numbers.{small-product}

@@ -1,3 +1,4 @@
+-- `inner` meets its contract.
 use Rattle.rules.specs.Passes.Stage.{goesOn}
 use Rattle.message.specs.Capped.{capped}
 use Rattle.rules.proofs.Passes.Tests.{both}

@@ -1,3 +1,4 @@
+-- `is_next` meets its contract.
 use native.Mathlib.Numerals.{add-one}
 use borrow.Author.Needs.{needs}
 use Rattle.audit.proofs.messages.is_next.Statement.{statement}

@@ -1,3 +1,4 @@
+-- `is_only` meets its contract.
 use borrow.Author.Needs.{needs}
 use Rattle.audit.proofs.messages.is_only.Statement.{statement}
 use Rattle.audit.proofs.messages.is_only.Tie as tie

@@ -1,3 +1,4 @@
+-- `is_rear` meets its contract.
 use borrow.Author.Needs.{needs}
 use Rattle.audit.proofs.messages.is_rear.Statement.{statement}
 use Rattle.audit.proofs.messages.is_rear.Tie as tie

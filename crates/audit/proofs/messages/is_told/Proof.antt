@@ -1,3 +1,4 @@
+-- `is_told` meets its contract.
 use mathlib.Core.Path.{sym, _∙_}
 use borrow.Author.Needs.{needs}
 use Rattle.audit.proofs.messages.is_told.Statement.{statement}

@@ -1,3 +1,4 @@
+-- `is_within` meets its contract.
 use native.Mathlib.Numerals.{add-one}
 use borrow.Author.Needs.{needs}
 use Rattle.audit.proofs.messages.is_within.Statement.{statement}

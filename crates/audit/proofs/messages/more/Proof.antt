@@ -1,3 +1,4 @@
+-- `more` meets its contract.
 use native.Mathlib.Numerals.{add-one}
 use borrow.Author.Needs.{needs}
 use Rattle.audit.proofs.messages.more.Statement.{statement}

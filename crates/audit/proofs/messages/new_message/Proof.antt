@@ -1,3 +1,4 @@
+-- `new_message` meets its contract.
 use mathlib.Core.Path.{sym, _∙_}
 use borrow.Author.Needs.{needs}
 use Rattle.audit.proofs.messages.new_message.Statement.{statement}

@@ -1,3 +1,4 @@
+-- `opens` meets its contract.
 use native.Mathlib.Numerals.{unary-clauses}
 use Rattle.rules.specs.Passes.Stage.{opens}
 use borrow.Author.Needs.{needs}

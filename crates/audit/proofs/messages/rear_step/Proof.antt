@@ -1,3 +1,4 @@
+-- `rear_step` meets its contract.
 use borrow.Author.Tests.{le-leb, lt-leb}
 use borrow.Author.Needs.{needs}
 use Rattle.audit.proofs.messages.rear_step.Statement.{statement}

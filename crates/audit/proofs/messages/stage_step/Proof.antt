@@ -1,3 +1,4 @@
+-- `stage_step` meets its contract.
 use borrow.Author.Needs.{needs}
 use Rattle.audit.proofs.messages.stage_step.Statement.{statement}
 use Rattle.audit.proofs.messages.stage_step.Tie as tie

@@ -1,3 +1,4 @@
+-- `course_ends` meets its contract.
 use borrow.Author.Needs.{needs}
 use Rattle.audit.proofs.order.course_ends.Statement.{statement}
 use Rattle.audit.proofs.order.course_ends.Tie as tie

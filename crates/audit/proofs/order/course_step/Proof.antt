@@ -1,3 +1,4 @@
+-- `course_step` meets its contract.
 use borrow.Author.Tests.{eq-eqb, ne-eqb}
 use borrow.Author.Needs.{needs}
 use Rattle.audit.proofs.order.course_step.Statement.{statement}

@@ -1,3 +1,4 @@
+-- `first_fits` meets its contract.
 use borrow.Author.Needs.{needs}
 use Rattle.audit.proofs.order.first_fits.Statement.{statement}
 use Rattle.audit.proofs.order.first_fits.Tie as tie

@@ -1,3 +1,4 @@
+-- `first_step` meets its contract.
 use mathlib.Core.Path.{sym, _∙_}
 use native.Mathlib.Omega.{arith}
 use Rattle.message.specs.Capped.{capped}

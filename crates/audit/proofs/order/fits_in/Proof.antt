@@ -1,3 +1,4 @@
+-- `fits_in` meets its contract.
 use Rattle.audit.proofs.Facts.{left-is}
 use borrow.Author.Needs.{needs}
 use Rattle.audit.proofs.order.fits_in.Statement.{statement}

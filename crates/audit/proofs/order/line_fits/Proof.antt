@@ -1,3 +1,4 @@
+-- `line_fits` meets its contract.
 use borrow.Author.Needs.{needs}
 use Rattle.audit.proofs.order.line_fits.Statement.{statement}
 use Rattle.audit.proofs.order.line_fits.Tie as tie

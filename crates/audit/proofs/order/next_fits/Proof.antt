@@ -1,3 +1,4 @@
+-- `next_fits` meets its contract.
 use borrow.Author.Needs.{needs}
 use Rattle.audit.proofs.order.next_fits.Statement.{statement}
 use Rattle.audit.proofs.order.next_fits.Tie as tie

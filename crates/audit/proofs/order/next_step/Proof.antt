@@ -1,3 +1,4 @@
+-- `next_step` meets its contract.
 use mathlib.Core.Path.{sym, _∙_}
 use native.Mathlib.Omega.{arith}
 use Rattle.audit.proofs.Facts.{next-low}

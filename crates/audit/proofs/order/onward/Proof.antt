@@ -1,3 +1,4 @@
+-- `onward` meets its contract.
 use borrow.Author.Needs.{needs}
 use Rattle.audit.proofs.order.onward.Statement.{statement}
 use Rattle.audit.proofs.order.onward.Tie as tie

@@ -1,3 +1,4 @@
+-- `stands` meets its contract.
 use borrow.Author.Needs.{needs}
 use Rattle.audit.proofs.order.stands.Statement.{statement}
 use Rattle.audit.proofs.order.stands.Tie as tie

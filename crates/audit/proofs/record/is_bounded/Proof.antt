@@ -1,3 +1,4 @@
+-- `is_bounded` meets its contract.
 use borrow.Author.Needs.{needs}
 use Rattle.audit.proofs.record.is_bounded.Statement.{statement}
 use Rattle.audit.proofs.record.is_bounded.Tie as tie

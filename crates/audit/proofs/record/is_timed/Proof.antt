@@ -1,3 +1,4 @@
+-- `is_timed` meets its contract.
 use Rattle.audit.proofs.Facts.{timeout-same}
 use borrow.Author.Needs.{needs}
 use Rattle.audit.proofs.record.is_timed.Statement.{statement}

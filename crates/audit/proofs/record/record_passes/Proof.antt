@@ -1,3 +1,4 @@
+-- `record_passes` meets its contract.
 use mathlib.Core.Path.{sym, _∙_}
 use Rattle.rules.specs.Passes.Record.{recordPasses}
 use Rattle.rules.specs.Passes.Tests.{_and_}

@@ -1,3 +1,4 @@
+-- `add_queue` meets its contract.
 use mathlib.Core.Path.{sym, _∙_}
 use Rattle.audit.proofs.Facts.{new-last}
 use borrow.Author.Needs.{needs}

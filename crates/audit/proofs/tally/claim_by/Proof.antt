@@ -1,3 +1,4 @@
+-- `claim_by` meets its contract.
 use borrow.Author.Tests.{eq-eqb, ne-eqb}
 use borrow.Author.Needs.{needs}
 use Rattle.audit.proofs.tally.claim_by.Statement.{statement}

@@ -1,3 +1,4 @@
+-- `has_bit` meets its contract.
 use Rattle.rules.specs.Passes.Tables.{has}
 use mathlib.Core.Path.{refl}
 use borrow.Author.Needs.{needs}

@@ -1,3 +1,4 @@
+-- `has_failed` meets its contract.
 use Rattle.rules.specs.Passes.Tables.{noneOf}
 use mathlib.Core.Path.{refl}
 use Rattle.audit.proofs.tally.has_failed.Statement.{statement}

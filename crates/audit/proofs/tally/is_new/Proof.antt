@@ -1,3 +1,4 @@
+-- `is_new` meets its contract.
 use Rattle.rules.specs.Passes.Tests.{_and_}
 use borrow.Author.Tests.{lt-ltb, le-ltb}
 use borrow.Author.Needs.{needs}

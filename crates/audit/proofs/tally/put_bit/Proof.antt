@@ -1,3 +1,4 @@
+-- `put_bit` meets its contract.
 use Prim.Native.Nat.{_/_, _%_, _^_}
 use lib.ListN.{getD}
 use Rattle.rules.specs.Passes.Tables.{has, put}

@@ -1,3 +1,4 @@
+-- `tally_fits` meets its contract.
 use borrow.Author.Needs.{needs}
 use Rattle.audit.proofs.tally.tally_fits.Statement.{statement}
 use Rattle.audit.proofs.tally.tally_fits.Tie as tie

@@ -1,3 +1,4 @@
+-- `tally_from` meets its contract.
 use Rattle.rules.specs.Passes.Tables.{noneOf}
 use mathlib.Core.Path.{refl}
 use Rattle.audit.proofs.tally.tally_from.Statement.{statement}

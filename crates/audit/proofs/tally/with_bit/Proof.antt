@@ -1,3 +1,4 @@
+-- `with_bit` meets its contract.
 use Rattle.audit.proofs.Bits.{shift-one, bit-room}
 use native.Mathlib.Omega.{arith}
 use borrow.Author.Needs.{needs}

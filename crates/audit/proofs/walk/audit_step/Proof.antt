@@ -1,3 +1,4 @@
+-- `audit_step` meets its contract.
 use borrow.Author.Needs.{needs}
 use Rattle.audit.proofs.walk.audit_step.Statement.{statement}
 use Rattle.audit.proofs.walk.audit_step.Tie as tie

@@ -1,3 +1,4 @@
+-- `if_ready` meets its contract.
 use borrow.Author.Tests.{eq-eqb, ne-eqb}
 use Rattle.audit.proofs.walk.if_ready.Statement.{statement}
 use Rattle.audit.proofs.walk.if_ready.Tie as tie

@@ -1,3 +1,4 @@
+-- `ready_ends` meets its contract.
 use borrow.Author.Needs.{needs}
 use Rattle.audit.proofs.walk.ready_ends.Statement.{statement}
 use Rattle.audit.proofs.walk.ready_ends.Tie as tie

@@ -1,3 +1,4 @@
+-- `walk_ends` meets its contract.
 use borrow.Author.Needs.{needs}
 use Rattle.audit.proofs.walk.walk_ends.Statement.{statement}
 use Rattle.audit.proofs.walk.walk_ends.Tie as tie

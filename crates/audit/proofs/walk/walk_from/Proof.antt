@@ -1,3 +1,4 @@
+-- `walk_from` meets its contract.
 use borrow.Author.Needs.{needs}
 use Rattle.audit.proofs.walk.walk_from.Statement.{statement}
 use Rattle.audit.proofs.walk.walk_from.Tie as tie

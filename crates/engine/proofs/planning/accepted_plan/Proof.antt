@@ -1,3 +1,4 @@
+-- `accepted_plan` meets its contract.
 use borrow.Author.Needs.{needs}
 use Rattle.engine.proofs.planning.accepted_plan.Statement.{statement}
 use Rattle.engine.proofs.planning.accepted_plan.Tie as tie

@@ -1,3 +1,4 @@
+-- `close_plan` meets its contract.
 use borrow.Author.Needs.{needs}
 use Rattle.engine.proofs.planning.close_plan.Statement.{statement}
 use Rattle.engine.proofs.planning.close_plan.Tie as tie

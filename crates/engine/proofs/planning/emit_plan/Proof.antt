@@ -1,3 +1,4 @@
+-- `emit_plan` meets its contract.
 use borrow.Author.Needs.{needs}
 use Rattle.engine.proofs.planning.emit_plan.Statement.{statement}
 use Rattle.engine.proofs.planning.emit_plan.Tie as tie

@@ -1,3 +1,4 @@
+-- `going_of` meets its contract.
 use borrow.Author.Needs.{needs}
 use Rattle.engine.proofs.planning.going_of.Statement.{statement}
 use Rattle.engine.proofs.planning.going_of.Tie as tie

@@ -1,3 +1,4 @@
+-- `leaving_plan` meets its contract.
 use borrow.Author.Needs.{needs}
 use Rattle.engine.proofs.planning.leaving_plan.Statement.{statement}
 use Rattle.engine.proofs.planning.leaving_plan.Tie as tie

@@ -1,3 +1,4 @@
+-- `leaving_so` meets its contract.
 use borrow.Author.Needs.{needs}
 use Rattle.engine.proofs.planning.leaving_so.Statement.{statement}
 use Rattle.engine.proofs.planning.leaving_so.Tie as tie

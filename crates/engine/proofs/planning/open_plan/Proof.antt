@@ -1,3 +1,4 @@
+-- `open_plan` meets its contract.
 use borrow.Author.Needs.{needs}
 use Rattle.engine.proofs.planning.open_plan.Statement.{statement}
 use Rattle.engine.proofs.planning.open_plan.Tie as tie

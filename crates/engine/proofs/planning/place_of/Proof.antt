@@ -1,3 +1,4 @@
+-- `place_of` meets its contract.
 use native.Mathlib.Omega.{arith}
 use Rattle.message.proofs.Numbers.{small-product}
 use borrow.Author.Needs.{needs}

@@ -1,3 +1,4 @@
+-- `plan_of` meets its contract.
 use mathlib.Core.Path.{sym, _∙_}
 use Rattle.engine.specs.Planning.{planOf}
 use borrow.Author.Tests.{ne-eqb}

@@ -1,3 +1,4 @@
+-- `post_plan` meets its contract.
 use borrow.Author.Needs.{needs}
 use Rattle.engine.proofs.planning.post_plan.Statement.{statement}
 use Rattle.engine.proofs.planning.post_plan.Tie as tie

@@ -1,3 +1,4 @@
+-- `raised` meets its contract.
 use borrow.Author.Needs.{needs}
 use Rattle.engine.proofs.planning.raised.Statement.{statement}
 use Rattle.engine.proofs.planning.raised.Tie as tie

@@ -1,3 +1,4 @@
+-- `respond_plan` meets its contract.
 use mathlib.Core.Path.{sym, subst}
 use Prim.Native.Nat.{_^_, _<_}
 use native.Mathlib.Omega.{arith}

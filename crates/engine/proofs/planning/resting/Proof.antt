@@ -1,3 +1,4 @@
+-- `resting` meets its contract.
 use borrow.Author.Needs.{needs}
 use Rattle.engine.proofs.planning.resting.Statement.{statement}
 use Rattle.engine.proofs.planning.resting.Tie as tie

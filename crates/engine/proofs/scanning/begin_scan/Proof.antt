@@ -1,3 +1,4 @@
+-- `begin_scan` meets its contract.
 use borrow.Author.Needs.{needs}
 use Rattle.engine.proofs.scanning.begin_scan.Statement.{statement}
 use Rattle.engine.proofs.scanning.begin_scan.Tie as tie

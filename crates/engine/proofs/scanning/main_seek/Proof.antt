@@ -1,3 +1,4 @@
+-- `main_seek` meets its contract.
 use borrow.Author.Needs.{needs}
 use Rattle.engine.proofs.scanning.main_seek.Statement.{statement}
 use Rattle.engine.proofs.scanning.main_seek.Tie as tie

@@ -1,3 +1,4 @@
+-- `read_seek` meets its contract.
 use borrow.Author.Needs.{needs}
 use Rattle.engine.proofs.scanning.read_seek.Statement.{statement}
 use Rattle.engine.proofs.scanning.read_seek.Tie as tie

@@ -1,3 +1,4 @@
+-- `scan_step` meets its contract.
 use borrow.Author.Needs.{needs}
 use Rattle.engine.proofs.scanning.scan_step.Statement.{statement}
 use Rattle.engine.proofs.scanning.scan_step.Tie as tie

@@ -1,3 +1,4 @@
+-- `seek_acknowledged` meets its contract.
 use borrow.Author.Needs.{needs}
 use Rattle.engine.proofs.scanning.seek_acknowledged.Statement.{statement}
 use Rattle.engine.proofs.scanning.seek_acknowledged.Tie as tie

@@ -1,3 +1,4 @@
+-- `seek_read` meets its contract.
 use borrow.Author.Needs.{needs}
 use Rattle.engine.proofs.scanning.seek_read.Statement.{statement}
 use Rattle.engine.proofs.scanning.seek_read.Tie as tie

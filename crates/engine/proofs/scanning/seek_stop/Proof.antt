@@ -1,3 +1,4 @@
+-- `seek_stop` meets its contract.
 use borrow.Author.Needs.{needs}
 use Rattle.engine.proofs.scanning.seek_stop.Statement.{statement}
 use Rattle.engine.proofs.scanning.seek_stop.Tie as tie

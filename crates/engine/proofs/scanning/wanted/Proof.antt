@@ -1,3 +1,4 @@
+-- `wanted` meets its contract.
 use borrow.Author.Needs.{needs}
 use Rattle.engine.proofs.scanning.wanted.Statement.{statement}
 use Rattle.engine.proofs.scanning.wanted.Tie as tie

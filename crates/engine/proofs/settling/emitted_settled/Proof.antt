@@ -1,3 +1,4 @@
+-- `emitted_settled` meets its contract.
 use borrow.Author.Needs.{needs}
 use Rattle.engine.proofs.settling.emitted_settled.Statement.{statement}
 use Rattle.engine.proofs.settling.emitted_settled.Tie as tie

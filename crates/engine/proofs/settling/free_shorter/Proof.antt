@@ -1,3 +1,4 @@
+-- `free_shorter` meets its contract.
 use borrow.Author.Needs.{needs}
 use Rattle.engine.proofs.settling.free_shorter.Statement.{statement}
 use Rattle.engine.proofs.settling.free_shorter.Tie as tie

@@ -1,3 +1,4 @@
+-- `joined_settled` meets its contract.
 use borrow.Author.Needs.{needs}
 use Rattle.engine.proofs.settling.joined_settled.Statement.{statement}
 use Rattle.engine.proofs.settling.joined_settled.Tie as tie

@@ -1,3 +1,4 @@
+-- `left_settled` meets its contract.
 use borrow.Author.Needs.{needs}
 use Rattle.engine.proofs.settling.left_settled.Statement.{statement}
 use Rattle.engine.proofs.settling.left_settled.Tie as tie

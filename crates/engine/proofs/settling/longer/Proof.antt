@@ -1,3 +1,4 @@
+-- `longer` meets its contract.
 use borrow.Author.Needs.{needs}
 use Rattle.engine.proofs.settling.longer.Statement.{statement}
 use Rattle.engine.proofs.settling.longer.Tie as tie

@@ -1,3 +1,4 @@
+-- `moved_to` meets its contract.
 use borrow.Author.Needs.{needs}
 use Rattle.engine.proofs.settling.moved_to.Statement.{statement}
 use Rattle.engine.proofs.settling.moved_to.Tie as tie

@@ -1,3 +1,4 @@
+-- `settle` meets its contract.
 use Rattle.engine.specs.Settling.{settledOf}
 use borrow.Author.Needs.{needs}
 use Rattle.engine.proofs.settling.settle.Statement.{statement}

@@ -1,3 +1,4 @@
+-- `shorter` meets its contract.
 use borrow.Author.Needs.{needs}
 use Rattle.engine.proofs.settling.shorter.Statement.{statement}
 use Rattle.engine.proofs.settling.shorter.Tie as tie

@@ -1,3 +1,4 @@
+-- `capped` meets its contract.
 use Rattle.message.specs.Capped.{capped}
 use borrow.Author.Needs.{needs}
 use Rattle.message.proofs.capping.capped.Statement.{statement}

@@ -1,3 +1,4 @@
+-- `tidied` meets its contract.
 use borrow.Author.Needs.{needs}
 use Rattle.message.proofs.capping.tidied.Statement.{statement}
 use Rattle.message.proofs.capping.tidied.Tie as tie

@@ -1,3 +1,4 @@
+-- `ack` meets its contract.
 use borrow.Author.Needs.{needs}
 use Rattle.outcomes.proofs.answering.ack.Statement.{statement}
 use Rattle.outcomes.proofs.answering.ack.Tie as tie

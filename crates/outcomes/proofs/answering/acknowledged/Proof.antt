@@ -1,3 +1,4 @@
+-- `acknowledged` meets its contract.
 use mathlib.Core.Path.{sym, _∙_}
 use borrow.Author.Needs.{needs}
 use Rattle.outcomes.proofs.answering.acknowledged.Statement.{statement}

@@ -1,3 +1,4 @@
+-- `answered` meets its contract.
 use borrow.Author.Tests.{eq-eqb, ne-eqb, le-leb, lt-leb}
 use borrow.Author.Needs.{needs}
 use Rattle.outcomes.proofs.answering.answered.Statement.{statement}

@@ -1,3 +1,4 @@
+-- `answered_inside` meets its contract.
 use mathlib.Core.Path.{ap, _∙_}
 use Rattle.rules.specs.Acknowledge.{answered}
 use Rattle.message.specs.Capped.{capped, tidy}

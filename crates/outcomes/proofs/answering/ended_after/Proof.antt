@@ -1,3 +1,4 @@
+-- `ended_after` meets its contract.
 use borrow.Author.Needs.{needs}
 use Rattle.outcomes.proofs.answering.ended_after.Statement.{statement}
 use Rattle.outcomes.proofs.answering.ended_after.Tie as tie

@@ -1,3 +1,4 @@
+-- `resending` meets its contract.
 use borrow.Author.Needs.{needs}
 use Rattle.outcomes.proofs.answering.resending.Statement.{statement}
 use Rattle.outcomes.proofs.answering.resending.Tie as tie

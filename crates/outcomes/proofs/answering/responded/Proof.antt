@@ -1,3 +1,4 @@
+-- `responded` meets its contract.
 use mathlib.Core.Bool.{Bool}
 use Prim.Native.Nat.{ℕ, _≤_}
 use native.Mathlib.Omega.{arith}

@@ -1,3 +1,4 @@
+-- `responded_to` meets its contract.
 use mathlib.Core.Path.{sym, ap, _∙_}
 use Prim.Native.Nat.{ℕ}
 use Rattle.rules.specs.Response.{responded}

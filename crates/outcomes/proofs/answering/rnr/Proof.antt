@@ -1,3 +1,4 @@
+-- `rnr` meets its contract.
 use Rattle.rules.specs.Passes.Tests.{_and_}
 use mathlib.Core.Path.{sym, _∙_}
 use borrow.Author.Needs.{needs}

@@ -1,3 +1,4 @@
+-- `taken` meets its contract.
 use borrow.Author.Needs.{needs}
 use Rattle.outcomes.proofs.answering.taken.Statement.{statement}
 use Rattle.outcomes.proofs.answering.taken.Tie as tie

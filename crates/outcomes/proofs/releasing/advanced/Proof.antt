@@ -1,3 +1,4 @@
+-- `advanced` meets its contract.
 use borrow.Author.Needs.{needs}
 use Rattle.outcomes.proofs.releasing.advanced.Statement.{statement}
 use Rattle.outcomes.proofs.releasing.advanced.Tie as tie

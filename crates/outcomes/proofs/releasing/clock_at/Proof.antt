@@ -1,3 +1,4 @@
+-- `clock_at` meets its contract.
 use borrow.Author.Tests.{eq-eqb, ne-eqb}
 use borrow.Author.Needs.{needs}
 use Rattle.outcomes.proofs.releasing.clock_at.Statement.{statement}

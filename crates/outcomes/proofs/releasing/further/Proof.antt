@@ -1,3 +1,4 @@
+-- `further` meets its contract.
 use borrow.Author.Needs.{needs}
 use Rattle.outcomes.proofs.releasing.further.Statement.{statement}
 use Rattle.outcomes.proofs.releasing.further.Tie as tie

@@ -1,3 +1,4 @@
+-- `release_by` meets its contract.
 use Rattle.rules.specs.Passes.Tests.{_and_}
 use native.Mathlib.Omega.{arith}
 use borrow.Author.Needs.{needs}

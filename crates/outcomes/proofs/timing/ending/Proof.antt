@@ -1,3 +1,4 @@
+-- `ending` meets its contract.
 use borrow.Author.Needs.{needs}
 use Rattle.outcomes.proofs.timing.ending.Statement.{statement}
 use Rattle.outcomes.proofs.timing.ending.Tie as tie

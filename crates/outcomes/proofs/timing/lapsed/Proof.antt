@@ -1,3 +1,4 @@
+-- `lapsed` meets its contract.
 use borrow.Author.Tests.{eq-eqb, ne-eqb}
 use borrow.Author.Needs.{needs}
 use Rattle.outcomes.proofs.timing.lapsed.Statement.{statement}

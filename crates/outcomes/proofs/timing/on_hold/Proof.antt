@@ -1,3 +1,4 @@
+-- `on_hold` meets its contract.
 use borrow.Author.Tests.{le-leb, lt-leb}
 use borrow.Author.Needs.{needs}
 use Rattle.outcomes.proofs.timing.on_hold.Statement.{statement}

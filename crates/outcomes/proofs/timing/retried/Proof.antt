@@ -1,3 +1,4 @@
+-- `retried` meets its contract.
 use borrow.Author.Needs.{needs}
 use Rattle.outcomes.proofs.timing.retried.Statement.{statement}
 use Rattle.outcomes.proofs.timing.retried.Tie as tie

@@ -1,3 +1,4 @@
+-- `ticked` meets its contract.
 use borrow.Author.Needs.{needs}
 use Rattle.outcomes.proofs.timing.ticked.Statement.{statement}
 use Rattle.outcomes.proofs.timing.ticked.Tie as tie

@@ -1,3 +1,4 @@
+-- `timed` meets its contract.
 use mathlib.Core.Path.{sym, ap, _∙_}
 use Rattle.rules.specs.declared.Standing.{Standing}
 use Rattle.rules.specs.Timer.{timeoutOf}

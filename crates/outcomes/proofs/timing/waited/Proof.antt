@@ -1,3 +1,4 @@
+-- `waited` meets its contract.
 use borrow.Author.Tests.{ltb-true}
 use Prim.Native.Nat.{_+_}
 use lib.Dec.{ltb}
