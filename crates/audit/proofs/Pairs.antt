@@ -22,7 +22,7 @@ use Rattle.rules.specs.Passes.Tables.{Entry, claimBy, pairPasses, entryOf, fail
 use Rattle.rules.specs.Passes.Tests.{_and_}
 use Rattle.rules.proofs.Passes.Tests.{both, joined}
 use Rattle.rules.proofs.Passes.Loops.{tally-turn, tally-last}
-use Rattle.rules.proofs.Passes.Stop.{not-passed, too-many, too-much}
+use Rattle.rules.proofs.Passes.Stop.{and-fails, not-passed, too-many, too-much}
 use Rattle.message.specs.Capped.{tidy}
 use Rattle.message.proofs.Cuts.{tidy-same}
 use Rattle.refusal.proofs.Loop.{loop-done, loop-more}
@@ -34,10 +34,6 @@ use Rattle.audit.proofs.Ready.{ready-settings}
 use Rattle.audit.proofs.Walks.{followed, follow-is}
 
 -- ---- one pair
-
-first-fails : (a b : Bool) → a ≡ false → a and b ≡ false
-unfolding _and_
-first-fails a b e = rw e
 
 -- the walk of a pair whose record passes: its settings are in range, or it holds none
 pub tidy-walk : (s : List Slot) (t : Standing) (held : ℕ) (w : Walk) → recordPasses small t held ≡ true → walked (tidy t) s w held ≡ walked t s w held
@@ -79,7 +75,7 @@ module _ (s : List Slot) (size : length s ≡ small .slots) (v : Auditing) (p : 
       (λ c. absurd (true≢false (sym (joined a (joined b c)) ∙ e)))
       (λ c. too-much (small .slots) t x (leb-false (v .tally .claimed + claimBy p) (small .slots) c)))
       (λ b. too-many (small .slots) t x (leb-false (v .tally .held + p .queue .held) (small .slots) b)))
-      (λ a. not-passed (small .slots) t x (first-fails _ _ a))
+      (λ a. not-passed (small .slots) t x (and-fails _ _ a))
 
   pub entry-is : tallyStep (small .slots) (v .tally) (walkedEntry p (follow s (openQueue v p))) ≡ tallyStep (small .slots) (v .tally) (entryOf small s p)
   entry-is =
@@ -87,7 +83,7 @@ module _ (s : List Slot) (size : length s ≡ small .slots) (v : Auditing) (p : 
       (λ e. ap (tallyStep (small .slots) (v .tally)) (walked-pair e))
       (λ e.
       ap (λ (w : Following). tallyStep (small .slots) (v .tally) (walkedEntry p w)) (follow-is s size (openQueue v p))
-      ∙ not-passed (small .slots) (v .tally) (walkedEntry p (followed s size (openQueue v p))) (first-fails _ _ e)
+      ∙ not-passed (small .slots) (v .tally) (walkedEntry p (followed s size (openQueue v p))) (and-fails _ _ e)
       ∙ sym (unwalked-pair e))
 
 -- ---- a tally that failed is the same whichever pair failed
@@ -104,7 +100,7 @@ module _ (slots : ℕ) where
       go false b c r = refl
 
   pub lost : (t : Tally) (e : Entry) → t .ok ≡ false → tallyStep slots t e ≡ failed slots
-  lost t e r = rw (first-fails (t .ok) _ r)
+  lost t e r = rw (and-fails (t .ok) _ r)
 
   pub failed-stays : (es : List Entry) → tallied slots (failed slots) es ≡ failed slots
   unfolding _and_

@@ -10,7 +10,7 @@ use borrow.Author.Tests.{ltb-true, ltb-false, leb-false, eqb-false}
 use lib.ListN.{length, length-drop}
 use Rattle.psn.specs.Psn.{psns, before}
 use Rattle.refusal.specs.Choice.{if_then_else_}
-use Rattle.refusal.proofs.Cases.{by-test, if-case, or-left, and-left, and-right}
+use Rattle.refusal.proofs.Cases.{by-test, or-left, and-left, and-right}
 use Rattle.refusal.proofs.Each.{each-at}
 use Rattle.rules.specs.declared.Answer.{Answer}
 use Rattle.rules.specs.declared.Answer.the-variants.{Dropped, Done, Resending, Held, Resumed, Idle, Ended}
@@ -23,7 +23,7 @@ use Rattle.rules.specs.Account.{Side, U, X, N, ahead, noPacket}
 use Rattle.rules.specs.Audit.{Audit}
 use Rattle.rules.specs.Card.{small}
 use Rattle.rules.specs.Calls.{Effect, effect, placeIf, overlaid, tablesAfter}
-use Rattle.rules.specs.Emission.{ends, waiting, going, outgoing, endsAt, emitted, emissions, recordBytes}
+use Rattle.rules.specs.Emission.{ends, going, outgoing, endsAt, emitted, emissions, recordBytes}
 use Rattle.rules.specs.Message.{slotsFor, span, packetsOf, isRead}
 use Rattle.rules.specs.Outcome.{staying, opened, closingAll, departures, completions, messagesOf}
 use Rattle.rules.specs.Posting.{raised, posted}
@@ -35,8 +35,11 @@ use Rattle.rules.specs.Refusals.{sideAt}
 use Rattle.rules.specs.Slots.{Tables, pairAt, queue, free, spelled, side, sideOf, sides, freed}
 use Rattle.rules.specs.WholeMessages.{Allowed}
 use Rattle.rules.proofs.Calls.Accepted.{Accepted, is-ready}
+use Rattle.rules.proofs.Calls.Buffers.{going-most}
+use Rattle.rules.proofs.Calls.Emits.{going-waits}
 use Rattle.rules.proofs.Calls.Moves.{side-at, well-of, post-fits}
-use Rattle.rules.proofs.Sides.Counts.{ack-most, timer-most}
+use Rattle.rules.proofs.Sides.After.{leaving}
+use Rattle.rules.proofs.Sides.Counts.{ack-most, timed-few}
 use Rattle.rules.proofs.Sides.Fits.{Fits, held-is, held-fit, place-fits}
 use Rattle.rules.proofs.Sides.Good.{Good, length-packets}
 use Rattle.rules.proofs.Sides.Order.{ahead-most}
@@ -163,6 +166,10 @@ module _ (at : ℕ) (t : Tables) (done out : List ℕ) (a : Audit small t) where
     unfolding timer
     ticked-is ready e = λ i. timed e (held-same i) (here ready i)
 
+    tick-few : (e : ℕ) → leaving (timer e s) ≤ length (s .packets)
+    unfolding timer
+    tick-few e = timed-few e (length (s .packets)) (s .standing)
+
     -- a response that fits has its read
     covered : (r o n : ℕ) → inside r s && unfit r o n s ≡ false → inside r s ≡ true → ahead (covers (s .standing .settings) r) (s .packets) < length (s .packets)
     covered r o n fits h =
@@ -222,19 +229,13 @@ module _ (at : ℕ) (t : Tables) (done out : List ℕ) (a : Audit small t) where
           bytes = out;
         })
 
-    going-most : (budget : ℕ) → going budget s ≤ budget
-    going-most budget = if-case (λ (n : ℕ). n ≤ budget) (ltb 0 (s .standing .clock .hold)) (λ _. omega arith) (λ _. omega arith)
-
-    going-few : (budget : ℕ) → going budget s ≤ length (waiting s)
-    going-few budget = if-case (λ (n : ℕ). n ≤ length (waiting s)) (ltb 0 (s .standing .clock .hold)) (λ _. omega arith) (λ _. omega arith)
-
     emit-is : (budget : ℕ) (f : Found) → FoundIn (mainSeek (pr .standing) (ask.Emit budget)) f → Accepted small (emitting budget out) at (sides t)
         → acted at t done out (emitPlan pr (t .ends) budget f) ≡ doneWith at (ask.Emit budget) t done out (effect (emitting budget out) s)
     unfolding emitted
     emit-is budget f e h =
         let ready = ready-of (h .state) in
         let k = going budget s in
-        let y = emitted-is t a at low ready k out (going-few budget) (omega (arith, going-most budget, ltb-false (length out) (recordBytes * budget) (h .buffer))) in
+        let y = emitted-is t a at low ready k out (going-waits budget s) (omega (arith, going-most budget s, ltb-false (length out) (recordBytes * budget) (h .buffer))) in
         (λ i.
         acted at t done out
         (planned Count (here ready i) (toFree pr (t .ends) 0 0) (toPair pr (t .ends) 0 noPost)
@@ -259,7 +260,7 @@ module _ (at : ℕ) (t : Tables) (done out : List ℕ) (a : Audit small t) where
     accepted-is (ask.Respond psn opcode len) c m r h = respond-is psn opcode len (c .main .found) (c .read .found) m r h
     accepted-is (ask.Tick elapsed) c m r h =
         ap (λ (o : Outcome). acted at t done out (leavingPlan pr (t .ends) o 0)) (ticked-is (ready-of (h .state)) elapsed)
-        ∙ slots-leave at t done out (a .whole) low (timer elapsed s) 0 (omega (arith, timer-most elapsed s, held-is t at)) (ltb-false (length done) 512 (h .buffer))
+        ∙ slots-leave at t done out (a .whole) low (timer elapsed s) 0 (omega (arith, tick-few elapsed, held-is t at)) (ltb-false (length done) 512 (h .buffer))
     accepted-is ask.Close c m r h =
         ap (λ (n : ℕ). acted at t done out (leavingPlan pr (t .ends) (closingAll n) 0)) held-same
         ∙ slots-leave at t done out (a .whole) low (closingAll (length (s .packets))) 0 (omega (arith, held-is t at)) (ltb-false (length done) 512 (h .buffer))

@@ -78,9 +78,6 @@ past-three false true c rest rest′ h = refl
 past-three false false true rest rest′ h = refl
 past-three false false false rest rest′ h = ap firstGiven (h refl refl refl)
 
-is-closed : {x : ℕ} → not (eqb x 0) ≡ false → x ≡ 0
-is-closed {x} e = eqb-true x 0 (not-false (eqb x 0) e)
-
 module _ (t : Tables) (at : ℕ) (v : Audited) (ok-is : v .ok ≡ passes small t) (sum-is : v .ok ≡ true → v .claimed ≡ claimed (claims (sides t))) where
   abbrev pub pr : Pair
   pr = pairAt (t .pairs) at
@@ -203,7 +200,7 @@ module _ (t : Tables) (at : ℕ) (v : Audited) (ok-is : v .ok ≡ passes small t
       by-rest (ask.Open st first) c done out (ap (λ (n : ℕ). not (eqb n 0)) state-is) (λ a b w.
       λ i.
       (badSettings small st || badPsn first) gives 3 ∷ never-short (length done) i gives 4 ∷ false gives 5 ∷ false gives 6 ∷ false gives 7
-      ∷ (room-open a b (is-closed w) st i || false) gives 8 ∷ false gives 9 ∷ [])
+      ∷ (room-open a b (eqb-true (s .standing .state) 0 (not-false (eqb (s .standing .state) 0) w)) st i || false) gives 8 ∷ false gives 9 ∷ [])
   refusal-is (ask.Post m) c f r done out =
       by-rest (ask.Post m) c done out (ap (λ (n : ℕ). not (eqb n 1)) state-is) (λ a b w.
       let here = ready-same a b (is-ready w) in

@@ -38,7 +38,7 @@ use Rattle.rules.proofs.Calls.Moves.{well-of}
 length-written : (new old : List ℕ) → length new ≤ length old → length (overlaid new old) ≡ length old
 length-written new old h = omega (arith, length-append new (drop (length new) old), length-drop (length new) old)
 
-going-most : (budget : ℕ) (s : Side) → going budget s ≤ budget
+pub going-most : (budget : ℕ) (s : Side) → going budget s ≤ budget
 going-most budget s = if-case (λ (n : ℕ). n ≤ budget) (ltb 0 (s .standing .clock .hold)) (λ _. omega arith) (λ _. omega arith)
 
 length-emission : (t : Standing) (p : Packet) → length (emission t p) ≡ recordBytes

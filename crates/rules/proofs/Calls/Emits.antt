@@ -27,7 +27,7 @@ use Rattle.rules.proofs.Calls.Called.{called}
 use Rattle.rules.proofs.Calls.Buffers.{length-emissions}
 
 -- no more go than wait
-going-waits : (budget : ℕ) (s : Side) → going budget s ≤ length (waiting s)
+pub going-waits : (budget : ℕ) (s : Side) → going budget s ≤ length (waiting s)
 going-waits budget s = if-case (λ (n : ℕ). n ≤ length (waiting s)) (ltb 0 (s .standing .clock .hold)) (λ _. omega arith) (λ _. omega arith)
 
 -- the records of those that go, and "Other buffer bytes stay."

@@ -10,8 +10,8 @@ use Rattle.rules.specs.Passes.Tests.{_and_}
 use Rattle.refusal.proofs.Cases.{by-test}
 use Rattle.rules.proofs.Passes.Tests.{both}
 
-not-both : (a b : Bool) → a ≡ false → a and b ≡ false
-not-both a b e = by-test (a and b) (λ t. absurd (false≢true (sym e ∙ both t .0))) (λ t. t)
+pub and-fails : (a b : Bool) → a ≡ false → a and b ≡ false
+and-fails a b e = by-test (a and b) (λ t. absurd (false≢true (sym e ∙ both t .0))) (λ t. t)
 
 not-right : (a b : Bool) → b ≡ false → a and b ≡ false
 not-right a b e = by-test (a and b) (λ t. absurd (false≢true (sym e ∙ both t .1))) (λ t. t)
@@ -23,12 +23,12 @@ module _ (slots : ℕ) where
 
   -- a pair whose record fails, so that its queue need not be walked
   pub not-passed : (t : Tally) (e : Entry) → e .passed ≡ false → tallyStep slots t e ≡ failed slots
-  not-passed t e r = unfit t e (not-right (t .ok) _ (not-both (e .passed) _ r))
+  not-passed t e r = unfit t e (not-right (t .ok) _ (and-fails (e .passed) _ r))
 
   -- a queue that holds more than is left of the table need not be walked
   pub too-many : (t : Tally) (e : Entry) → slots < t .held + e .queue .held → tallyStep slots t e ≡ failed slots
   too-many t e h =
-      unfit t e (not-right (t .ok) _ (not-right (e .passed) _ (not-both (leb (t .held + e .queue .held) slots) _ (lt-leb (t .held + e .queue .held) slots h))))
+      unfit t e (not-right (t .ok) _ (not-right (e .passed) _ (and-fails (leb (t .held + e .queue .held) slots) _ (lt-leb (t .held + e .queue .held) slots h))))
 
   -- nor one whose pair claims more than is left
   pub too-much : (t : Tally) (e : Entry) → slots < t .claimed + e .claim → tallyStep slots t e ≡ failed slots

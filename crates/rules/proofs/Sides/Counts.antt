@@ -22,9 +22,9 @@ use Rattle.rules.specs.declared.Outcome.{Outcome}
 use Rattle.rules.specs.Outcome.{dropped, ending}
 use Rattle.rules.specs.declared.Release.{Release}
 use Rattle.rules.specs.Release.{release, advanced, passedBy}
-use Rattle.rules.specs.Acknowledge.{inside, backToU, resending, endedAfter, waitOf, acknowledge}
+use Rattle.rules.specs.Acknowledge.{inside, backToU, resending, endedAfter, waitOf, acknowledge, answered}
 use Rattle.rules.specs.Response.{readAt, atLast, taken, response}
-use Rattle.rules.specs.Timer.{ticked, retried, timeoutOf, timer}
+use Rattle.rules.specs.Timer.{timeoutOf, ticked, retried, timer, timed}
 use Rattle.rules.specs.Order.{_or_, left, right}
 use Rattle.rules.specs.Requests.{wordOf}
 use Rattle.rules.proofs.Sides.After.{leaving}
@@ -81,8 +81,8 @@ delayed r wait s =
     let c = g .standing .clock in
     record { answer = Held; released = g .released; flushed = 0; standing = backToU (c .retries) (if counted s then c .rnrs - 1 else c .rnrs) wait (g .standing) }
 
-abbrev answered : ℕ → ℕ → Side → Outcome
-answered r last s =
+abbrev answeredAt : ℕ → ℕ → Side → Outcome
+answeredAt r last s =
     let g = release r s in
     record { answer = Done; released = g .released + last; flushed = 0; standing = taken (U s) (next r) (g .standing) }
 
@@ -100,7 +100,7 @@ module _ (P : Outcome → Type 0) (s : Side) where
       if-case P (leb (lowBits y) 2) (λ _. again r) (λ _. end))))
 
   -- a response
-  by-response : (r : ℕ) → P (dropped s) → P (resending (release r s)) → ((last : ℕ) → P (answered r last s)) → P (response r s)
+  by-response : (r : ℕ) → P (dropped s) → P (resending (release r s)) → ((last : ℕ) → P (answeredAt r last s)) → P (response r s)
   unfolding response
   by-response r drop again done =
       if-case P (not (inside r s)) (λ _. drop) (λ _. if-case P (release r s .stopped) (λ _. again) (λ _. done (if atLast (s .standing .settings) r (readAt r s) then 1 else 0)))
@@ -253,14 +253,27 @@ timer-keeps e s =
 
 -- ---- at most what is held leaves
 
-pub ack-most : (r y : ℕ) (s : Side) → leaving (acknowledge r y s) ≤ length (s .packets)
-ack-most r y s =
-    by-acknowledge (λ o. leaving o ≤ length (s .packets)) s r y
-    (omega arith)
-    (λ b. omega (arith, released b s .most))
-    (λ b. omega (arith, released b s .most))
-    (λ wait _. omega (arith, released r s .most))
-    (omega (arith, released r s .most))
+pub answered-few : (s : Settings) (r y held : ℕ) (before : ℕ → Release) → ((b : ℕ) → before b .released ≤ held) → leaving (answered s r y held before) ≤ held
+answered-few s r y held before few =
+    if-case (λ (o : Outcome). leaving o ≤ held) (eqb (topBits y) 0)
+    (λ _. if-case (λ (o : Outcome). leaving o ≤ held) (before (next r) .stopped) (λ _. omega (arith, few (next r))) (λ _. omega (arith, few (next r))))
+    (λ _. if-case (λ (o : Outcome). leaving o ≤ held) (eqb (topBits y) 1)
+    (λ _. if-case (λ (o : Outcome). leaving o ≤ held) (ltb (s .rnr) 7 && eqb (before r .standing .clock .rnrs) 0) (λ _. omega (arith, few r)) (λ _. omega (arith, few r)))
+    (λ _. if-case (λ (o : Outcome). leaving o ≤ held) (leb (lowBits y) 2) (λ _. omega (arith, few r)) (λ _. omega (arith, few r))))
 
-pub timer-most : (e : ℕ) (s : Side) → leaving (timer e s) ≤ length (s .packets)
-timer-most e s = by-timer (λ o. leaving o ≤ length (s .packets)) s e (λ _ _. omega arith) (λ _ _. omega arith) (omega arith) (λ _. omega arith)
+pub ack-most : (r y : ℕ) (s : Side) → leaving (acknowledge r y s) ≤ length (s .packets)
+unfolding acknowledge
+ack-most r y s =
+    if-case (λ (o : Outcome). leaving o ≤ length (s .packets)) (not (inside r s))
+    (λ _. omega arith)
+    (λ _. answered-few (s .standing .settings) r y (length (s .packets)) (λ b. release b s) (λ b. released b s .most))
+
+pub timed-few : (e held : ℕ) (t : Standing) → leaving (timed e held t) ≤ held
+timed-few e held t =
+    if-case (λ (o : Outcome). leaving o ≤ held) (ltb 0 (t .clock .hold))
+    (λ _. if-case (λ (o : Outcome). leaving o ≤ held) (leb (t .clock .hold) e) (λ _. omega arith) (λ _. omega arith))
+    (λ _. if-case (λ (o : Outcome). leaving o ≤ held) (eqb (t .line .u) (t .line .h) || eqb (t .settings .timeout) 0)
+    (λ _. omega arith)
+    (λ _. if-case (λ (o : Outcome). leaving o ≤ held) (ltb (t .clock .elapsed + e) (timeoutOf (t .settings)))
+    (λ _. omega arith)
+    (λ _. if-case (λ (o : Outcome). leaving o ≤ held) (eqb (t .clock .retries) 0) (λ _. omega arith) (λ _. omega arith))))

@@ -5,7 +5,7 @@ use native.Mathlib.Omega.{arith}
 use Rattle.rules.specs.declared.Outcome.{Outcome}
 use Rattle.rules.proofs.Sides.After.{leaving}
 use Rattle.message.specs.Capped.{tidy}
-use Rattle.outcomes.proofs.Few.{timed-few}
+use Rattle.rules.proofs.Sides.Counts.{timed-few}
 use borrow.Author.Needs.{needs}
 use Rattle.engine.proofs.planning.tick_plan.Statement.{statement}
 use Rattle.engine.proofs.planning.tick_plan.Tie as tie
