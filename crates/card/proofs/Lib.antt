@@ -1,0 +1,2 @@
+mod Types
+mod Fresh

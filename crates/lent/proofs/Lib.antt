@@ -1,0 +1,10 @@
+pub mod Plain
+pub mod Refs
+pub mod Does
+pub mod Meets
+pub mod Frame
+pub mod Open
+pub mod Get
+pub mod Put
+pub mod Local
+pub mod Bag

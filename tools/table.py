@@ -1,0 +1,74 @@
+# What each walked function computes, by the definitions: {0}, {1}, .. are its parameters in order (a reference stands for the value behind it on entry).
+#   f       the result ('tt' for none)
+#   z       the last value behind each reference
+#   walk    its proof is written by tools/walk.py (the others are only called)
+#   cites   the law of `lent` that it is an instance of
+#   unfold  the definitions that show f and z to be what the code does; good: the proof, where it is more than that
+#   loop    a loop over a turn: step, a function of the loop's state, and less, that it leaves fewer turns; where the state is more than the work, its type,
+#           how it is packed from the parameters, and what of it is the work and the last values ({y} is the state)
+USES = {
+    'Choice': 'Rattle.refusal.specs.Choice',
+    'Calls': 'Rattle.rules.specs.Calls', 'Card': 'Rattle.rules.specs.Card', 'Requests': 'Rattle.rules.specs.Requests', 'Slots': 'Rattle.rules.specs.Slots', 'Passes': 'Rattle.rules.specs.Passes.Tables',
+    'Steps': 'Rattle.audit.specs.Steps', 'Loops': 'Rattle.audit.specs.Loops', 'Queues': 'Rattle.audit.proofs.Walks', 'Pairs': 'Rattle.audit.proofs.Pairs', 'Decided': 'Rattle.audit.proofs.Decided',
+    'Acting': 'Rattle.walks.specs.Acting', 'Kept': 'Rattle.walks.proofs.Kept', 'Put': 'Rattle.walks.proofs.Put', 'Emitted': 'Rattle.walks.proofs.Emitted',
+    'Asked': 'Rattle.engine.specs.Asked', 'Scanning': 'Rattle.engine.specs.Scanning', 'Scanned': 'Rattle.engine.proofs.Scanned', 'Planning': 'Rattle.engine.specs.Planning', 'Settling': 'Rattle.engine.specs.Settling', 'Body': 'Rattle.engine.specs.Body',
+    'ask': 'Rattle.engine.specs.declared.Ask.the-variants',
+    'Lent': 'Rattle.card.specs.Lent', 'Inner': 'Rattle.card.specs.Inner', 'Called': 'Rattle.card.proofs.Called', 'Fresh': 'Rattle.card.proofs.Fresh',
+}
+FN = {}
+def value(**fs):
+    for n, f in fs.items(): FN[n] = dict(f=f)
+def walk(n, f, z, **more): FN[n] = dict(f=f, z=z, walk=True, **more)
+
+# ---- one record
+value(place='{0}', no_slot='Slots.noSlot', no_pair='Slots.noPair', with_link='record { link = {1}; packet = {0} .packet }')
+for s in ('slot', 'pair'):
+    walk(s + '_or', 'getD {0} {1} {2}', ['{0}'], cites='get-meets')
+    walk('put_%s_if' % s, 'tt', ['set {0} {1} {2}'], cites='put-meets')
+    walk(s + '_at', 'Slots.%sAt {0} {1}' % s, ['{0}'], unfold=['Slots.%sAt' % s])
+walk('relink', 'tt', ['Slots.relinked {1} {2} {0}'], unfold=['Slots.relinked'])
+
+# ---- the audit
+value(next_slot='{0} .walk .trail .at', follow_step='Steps.followStep {0} {1}', next_free='{0} .trail .at', trace_step='Steps.traceStep {0} {1}', next_pair='Steps.nextPair {0}', open_queue='Steps.openQueue {0} {1}',
+      join_queue='Steps.joinQueue {0} {1} {2}', begin_audit='Steps.beginAudit {0} {1}', open_free='Steps.openFree {0} {1}', join_free='Steps.joinFree {0} {1} {2}')
+walk('follow_turn', 'Loops.followTurn {0} {1}', ['{0}'])
+walk('follow', 'Loops.follow {0} {1}', ['{0}'], loop=dict(step='Loops.followTurn {0}', less='Queues.follow-less {0}'))
+walk('trace_turn', 'Loops.traceTurn {0} {1}', ['{0}'])
+walk('trace', 'Loops.trace {0} {1}', ['{0}'], loop=dict(step='Loops.traceTurn {0}', less='Queues.trace-less {0}'))
+walk('audit_turn', 'Loops.auditTurn {0} {1} {2}', ['{0}', '{1}'])
+walk('audit_pairs', 'Loops.auditPairs {0} {1} {2}', ['{0}', '{1}'], loop=dict(step='Loops.auditTurn {0} {1}', less='Pairs.join-less {0} {1}'))
+walk('audit_tables', 'Loops.audited (record { pairs = {0}; ends = {2}; slots = {1} })', ['{0}', '{1}'], unfold=['Loops.audited'])
+
+# ---- the scan
+value(begin_scan='Scanning.beginScan {0} {1} {2}', scan_step='Scanning.scanStep {0} {1}')
+walk('scan_turn', 'Scanning.scanTurn {0} {1}', ['{0}'])
+walk('scan_queue', 'Scanning.scanned {0} {1}', ['{0}'], loop=dict(step='Scanning.scanTurn {0}', less='Scanned.scan-less {0}'))
+
+# ---- the walks that act
+value(leave_step='Acting.leaveStep {0} {1}', join_step='Acting.joinStep {0} {1}', join_slot='Acting.joinSlot {0}', emit_step='Acting.emitStep {0} {1}')
+FN['complete'] = dict(f='tt', z=['Acting.completed {0} {1} {2}'])
+FN['emit_record'] = dict(f='tt', z=['Acting.recorded {0} {1} {2}'])
+LEFT = 'record { work = {2}; slots = {0}; done = {1} }'; JOINED = 'record { work = {1}; slots = {0} }'; EMITTED = 'record { work = {2}; out = {1} }'
+def acts(f, x, *parts): return [par if par.startswith('{') else '%s (%s) .%s' % (f, x, par) for par in parts]
+walk('leave_turn', *(lambda a: (a[0], a[1:]))(acts('Acting.leaveTurn', LEFT, 'work', 'slots', 'done')))
+walk('leave', *(lambda a: (a[0], a[1:]))(acts('Acting.leave', LEFT, 'work', 'slots', 'done')), loop=dict(state='Acting.Left', pack=LEFT, work='{y} .work', refs=['{y} .slots', '{y} .done'], step='Acting.leaveTurn', less='Kept.leave-less'))
+walk('join_turn', *(lambda a: (a[0], a[1:]))(acts('Acting.joinTurn', JOINED, 'work', 'slots')))
+walk('join', *(lambda a: (a[0], a[1:]))(acts('Acting.join', JOINED, 'work', 'slots')), loop=dict(state='Acting.Joined', pack=JOINED, work='{y} .work', refs=['{y} .slots'], step='Acting.joinTurn', less='Put.join-less'))
+walk('emit_turn', *(lambda a: (a[0], a[1:]))(acts('Acting.emitTurn {0}', EMITTED, 'work', '{0}', 'out')))
+walk('emit', *(lambda a: (a[0], a[1:]))(acts('Acting.emit {0}', EMITTED, 'work', '{0}', 'out')), loop=dict(state='Acting.Emitted', pack=EMITTED, work='{y} .work', refs=['{0}', '{y} .out'], step='Acting.emitTurn {0}', less='Emitted.emit-less {0}'))
+
+# ---- a fresh start
+value(fill_place='{0} .left - 1', fill_step='Inner.fillStep {0}', closed_pair='Inner.closedPair', free_slot='Inner.freeSlot {0}', start_of='Inner.startOf {0} {1} {2}')
+FILLED = 'record { work = {1}; rows = {0} }'
+for s, row, T in (('pair', 'Inner.pairRow', 'Pair'), ('slot', 'Inner.freeSlot', 'Slot')):
+    walk('fill_%s_turn' % s, *(lambda a: (a[0], a[1:]))(acts('Inner.fillTurn ' + row, FILLED, 'work', 'rows')))
+    walk('fill_%ss' % s, *(lambda a: (a[0], a[1:]))(acts('Inner.fill ' + row, FILLED, 'work', 'rows')), loop=dict(state='Inner.Filled ' + T, pack=FILLED, work='{y} .work', refs=['{y} .rows'], step='Inner.fillTurn ' + row, less='Fresh.fill-less ' + row))
+
+# ---- the one body
+value(room_within='Asked.lentOf {1} (min ({0} .numbers) {2}) (min ({0} .bytes) {3})', limits_of='record { numbers = {0}; bytes = {1} }', plan_of='Planning.planOf {0} {1} {2} {3} {4} {5} {6}', settle='Settling.settledOf {0} {1} {2} {3} {4} {5}',
+      to_open='ask.Open {0} {1}', to_post='ask.Post {0}', to_emit='ask.Emit {0}', to_acknowledge='ask.Acknowledge {0} {1}', to_respond='ask.Respond {0} {1} {2}', to_tick='ask.Tick {0}', to_close='ask.Close')
+walk('decide', 'Inner.planWith {3} {4} (record { pairs = {0}; ends = {2}; slots = {1} }) {5}', ['{0}', '{1}'], unfold=['Body.scanOf'])
+ACTED = 'Inner.actedOn {3} {4} {5} {0} {1} {2}'
+walk('act', ACTED + ' .settled', [ACTED + x for x in (' .slots', ' .numbers', ' .bytes')])
+BODY = 'Inner.bodyIn {5} {6} {7} (record { pairs = {0}; ends = {1}; slots = {2} }) {3} {4}'
+walk('call', BODY + ' .reply', [BODY + x for x in (' .tables .pairs', ' .tables .ends', ' .tables .slots', ' .numbers', ' .bytes')], unfold=['Inner.bodyIn', 'Body.acted'])
