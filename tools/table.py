@@ -72,3 +72,24 @@ ACTED = 'Inner.actedOn {3} {4} {5} {0} {1} {2}'
 walk('act', ACTED + ' .settled', [ACTED + x for x in (' .slots', ' .numbers', ' .bytes')])
 BODY = 'Inner.bodyIn {5} {6} {7} (record { pairs = {0}; ends = {1}; slots = {2} }) {3} {4}'
 walk('call', BODY + ' .reply', [BODY + x for x in (' .tables .pairs', ' .tables .ends', ' .tables .slots', ' .numbers', ' .bytes')], unfold=['Inner.bodyIn', 'Body.acted'])
+
+# ---- the calls by their own names: the body is the rules' call
+T = '(record { pairs = {0}; ends = {1}; slots = {2} })'
+def named(n, request, ask, limits, done, out, proof, buffer=None):
+    c = 'Calls.call Card.small (Requests.on %s (Requests.%s)) %s' % (request[0], request[1], T); run = 'Called.ran-is (%s) %s (ask.%s) %s %s %s (%s)' % (limits, request[0], ask, T, done, out, proof)
+    parts = [('reply', 'said .reply'), ('tables .pairs', 'next .pairs'), ('tables .ends', 'next .ends'), ('tables .slots', 'next .slots')] + ([(buffer, 'said .buffer')] if buffer else [])
+    ends = ['ap (λ (x : Body.Ran). x .%s) (%s)' % (p, run) for p, _ in parts]; good = ends[-1]
+    for e in reversed(ends[:-1]): good = '(%s, %s)' % (e, good)
+    walk(n, '%s .%s' % (c, parts[0][1]), ['%s .%s' % (c, p) for _, p in parts[1:]], good=good, unfold=['Body.ruled'])
+NO = '(0 ∷ [])'
+named('open_pair', ('{3}', 'opening {4} {5}'), 'Open {4} {5}', 'record { numbers = 1; bytes = 0 }', NO, NO, 'refl')
+named('post_message', ('{3}', 'posting {4}'), 'Post {4}', 'record { numbers = 1; bytes = 0 }', NO, NO, 'refl')
+named('emit_packets', ('{4}', 'emitting {5} {3}'), 'Emit {5}', 'record { numbers = 0; bytes = length {3} }', NO, '{3}', 'Called.min-same (length {3})', 'bytes')
+NUMBERS = ('record { numbers = length {3}; bytes = 0 }', '{3}', NO, 'Called.min-same (length {3})', 'numbers')
+named('acknowledge', ('{4}', 'acknowledging {5} {6} {3}'), 'Acknowledge {5} {6}', *NUMBERS)
+named('read_response', ('{4}', 'responding {5} {6} {7} {3}'), 'Respond {5} {6} {7}', *NUMBERS)
+named('timer_step', ('{4}', 'ticking {5} {3}'), 'Tick {5}', *NUMBERS)
+named('close_pair', ('{4}', 'closing {3}'), 'Close', *NUMBERS)
+walk('audit', 'Passes.passes Card.small ' + T, ['{0}', '{1}', '{2}'], good='(Decided.audited-is %s, (refl, (refl, refl)))' % T)
+START = 'Calls.call Card.small Requests.starting ' + T
+walk('fresh_start', START + ' .said .reply', [START + ' .next .' + x for x in ('pairs', 'ends', 'slots')], good='Fresh.started-is {0} {1} {2}')

@@ -318,13 +318,13 @@ class Walk:
             xa = ['xs ' + '.1 ' * j + '.0' for j in range(self.k)] + ['a ' + '.1 ' * i + '.0' for i in range(len(self.plains))]
             ph = lambda ar: sub(sp['some'].replace('{w}', 'r'), ar).replace('NOTHING', 'Unit {0}')
             self.good = '(λ xs a r zs. %s)' % ph(xa); self.ls = tup('l%d' % j for j in range(self.k)); self.xs = tup('x%d' % j for j in range(self.k)); self.as_ = tup('a%d' % i for i in range(len(self.plains)))
-            return o + ['      abbrev Good : %s → Helds rs → Type 0' % den(ts[0]), '      Good r zs = %s' % ph(args), '', '      abbrev Post : Val → SProp 𝓤', '      Post = After 𝓤 H A rs %s %s Good' % (self.ls, self.res), '']
+            return o + ['      abbrev Good : %s → Helds rs → Type 0' % den(ts[0]), '      Good r zs = %s' % ph(args), '', '      abbrev Upshot : Val → SProp 𝓤', '      Upshot = After 𝓤 H A rs %s %s Good' % (self.ls, self.res), '']
         self.fx = sub(sp['f'], args); self.zx = [sub(z, args) for z in sp.get('z', [])]
         xa = ['xs ' + '.1 ' * j + '.0' for j in range(self.k)] + ['a ' + '.1 ' * i + '.0' for i in range(len(self.plains))]
         gf, gz = sub(sp['f'], xa), [sub(z, xa) for z in sp.get('z', [])]
         self.good = '(λ xs a r zs. And rs (r ≡ %s) zs %s)' % (gf, tup(gz)) if sp['f'] != 'tt' or True else ''
         self.ls = tup('l%d' % j for j in range(self.k)); self.xs = tup('x%d' % j for j in range(self.k)); self.as_ = tup('a%d' % i for i in range(len(self.plains)))
-        o += ['      abbrev Good : %s → Helds rs → Type 0' % den(ts[0]), '      Good r zs = And rs (r ≡ %s) zs %s' % (self.fx, tup(self.zx)), '', '      abbrev Post : Val → SProp 𝓤', '      Post = After 𝓤 H A rs %s %s Good' % (self.ls, self.res), '']
+        o += ['      abbrev Good : %s → Helds rs → Type 0' % den(ts[0]), '      Good r zs = And rs (r ≡ %s) zs %s' % (self.fx, tup(self.zx)), '', '      abbrev Upshot : Val → SProp 𝓤', '      Upshot = After 𝓤 H A rs %s %s Good' % (self.ls, self.res), '']
         return o
     def tail(self):
         n = self.name; acc = lambda j: 'a ' + '.1 ' * j + '.0'
@@ -361,7 +361,7 @@ class Walk:
             for c, t1, mine, use, t2 in self.lemmas: cc += ['      %s : %s' % (c, out(t1))] + (['      unfolding ' + ' '.join(mine)] if mine else []) + ['      %s %s = %s' % (c, use, out(t2)), '']
             cc += ['      good : Good %s %s' % (out(par(self.vals[0])), out(tup(self.hs)))] + (['      unfolding ' + ' '.join([n for n, t, d in self.defs] + FN[self.name].get('unfold', []))] if self.defs or 'unfold' in FN[self.name] else []) + ['      good = %s' % (sub(FN[self.name]['good'], args) if 'good' in FN[self.name] else conj(['refl'] * (1 + self.k))), '']
         o = self.head('a straight line of calls.') + cc
-        o += ['      walk : ent 𝓤 (⋆ 𝓤 H A (items rs %s %s)) (WpFn 𝓤 H (𝓣 .C) (𝓣 .Λ) code.function (pointers rs %s ++ machine ps %s) Post)' % (self.ls, self.xs, self.ls, self.as_), '      walk =',
+        o += ['      walk : ent 𝓤 (⋆ 𝓤 H A (items rs %s %s)) (WpFn 𝓤 H (𝓣 .C) (𝓣 .Λ) code.function (pointers rs %s ++ machine ps %s) Upshot)' % (self.ls, self.xs, self.ls, self.as_), '      walk =',
               '          qed W (items rs %s %s) ∵ begins ! (𝓣 .C) (𝓣 .Λ) code.function _ _ _ locals-are (pointers rs %s ++ machine ps %s) %s _ _ (λ bs.' % (self.ls, self.xs, self.ls, self.as_, self.passes()),
               '          -- local i stands at %d + 2i' % self.off]
         o += ['          ' + out(l) for l in self.lines]; o[-1] += ')'
@@ -400,22 +400,22 @@ class Walk:
         does = 'does 𝓤 H A W (𝓣 .C) (fmOf 𝓤 H (W .laws) 𝓣) #%s.name rs (%s ∷ []) %s (%s.clauses 𝓤 H A mem run) known-%s %s (x .0 .1) (x .0 .0, tt) (x .1 .0, tt) (λ m. tt) (λ m. id⊢ 𝓤 _) (λ w zs. And rs (w ≡ turnOf (x .0) .0) zs (turnOf (x .0) .1)) (λ m w ws. id⊢ 𝓤 _)' % (key, P, P, key, key, ls)
         o += ['      abbrev X : Type 0', '      X = (s : St) × (Fits %s (s .0) × (outOf s ≡ outOf %s))' % (P, st), '', '      abbrev _≺_ : X → X → Type 0', '      _≺_ x y = x @L@ < y @L@', '',
               '      abbrev next : (x : X) → 0 < x @L@ → Fits %s (turnOf (x .0) .0) → X' % P, '      next x l g = (turnOf (x .0), (g, sym (more-of (x .0) l) ∙ x .1 .1))', '',
-              '      ends : (x : X) → Holds (not (ltb 0 (x @L@))) → ent 𝓤 (⋆ 𝓤 H A (items rs %s (x .0 .1))) (Post (%s .val (x .0 .0)))' % (self.ls, P),
+              '      ends : (x : X) → Holds (not (ltb 0 (x @L@))) → ent 𝓤 (⋆ 𝓤 H A (items rs %s (x .0 .1))) (Upshot (%s .val (x .0 .0)))' % (self.ls, P),
               '      ends x h = let g = nltb→le 0 (x @L@) h in let e : x .0 ≡ outOf %s = sym (done-of (x .0) (omega (arith, g))) ∙ x .1 .1 in' % st,
               '          ended 𝓤 H A W rs %s %s Good (x .0 .0) (x .0 .1) (x .1 .0) %s' % (self.ls, P, conj(['ap (λ (s : St). s .0) e'] + ['ap (λ (s : St). s .1 %s.0) e' % ('.1 ' * j) for j in range(k)])), '',
               '      module _ (bs : Locs its.locals) where', '        abbrev E : Env 𝓤 H', '        E = envOf H its.locals bs', '',
               '        -- local i stands at %d + 2i' % self.off, '        abbrev I : X → List (Item 𝓤)',
               '        I x = items rs %s (x .0 .1) ++ cells its.locals bs (none ∷ %ssome (%s .val a0) ∷ some (%s .val (x .0 .0)) ∷ [])' % (self.ls, ''.join('some (%s) ∷ ' % ('sliceVal (b%d, o%d) (length x%d)' % (j, j, j) if ts[j + 1][0] == 'slice' else 'vptr b%d o%d' % (j, j)) for j in range(k)), P, P), '',
-              '        abbrev Left : Out → SProp 𝓤', '        Left = afterBlock 𝓤 H (afterSeq 𝓤 H (Wp 𝓤 H (𝓣 .C) (𝓣 .Λ) E its.t-3 (atReturn 𝓤 H E Post)) (atReturn 𝓤 H E Post))', '',
+              '        abbrev Left : Out → SProp 𝓤', '        Left = afterBlock 𝓤 H (afterSeq 𝓤 H (Wp 𝓤 H (𝓣 .C) (𝓣 .Λ) E its.t-3 (atReturn 𝓤 H E Upshot)) (atReturn 𝓤 H E Upshot))', '',
               '        turns : (x : X) → Sq W (I x) (runs (𝓣 .C) (𝓣 .Λ) E its.turn-1 (anyQ (afterTurn 𝓤 H (Below 𝓤 H A _≺_ I x) Left)))', '        unfolding afterTurn', '        turns x =',
               '            assigns ! (bin ! (lit ! tt) (load ! (from ! %s) (look-in ! %d %s)) tt) (from ! (stop !)) (init ! %d refl (tt, tt)) $ tests ! (var ! %d refl)' % (self.fields, self.pos(wl), self.test, self.pos(tl), self.pos(tl)), '            (λ h.']
         o += ['            ' + l for l in self.lines]
         o += ['            calls-last ! (fmOf 𝓤 H (W .laws) 𝓣) %s (%s) %s (x .0 .1) (turnOf (x .0) .1) refl _ %s (turnOf (x .0) .0) (%s)' % (rs[0], cons(rs[1:]), self.ls, P, does),
               '            (λ i. %s) (λ g. land-last ! (from ! (stop !)) (store ! %d refl (%s .typed 𝓤 H A W (turnOf (x .0) .0) g)) $ %s' % (self.operands([q[0] for q in os]), self.pos(wl), P, ' '.join('forget ! %d refl $' % self.pos(t) for t in temps)),
               '            again ! _≺_ I x (next x (ltb→lt 0 (x @L@) h) g) (lefts (x .0) (ltb→lt 0 (x @L@) h))))',
-              '            (λ h. exec ! (𝓣 .C) (𝓣 .Λ) E its.t-3 (atRet E Post) $ assigns ! (of-opd ! (var ! %d refl)) (from ! (stop !)) (init ! %d refl (%s .typed 𝓤 H A W (x .0 .0) (x .1 .0))) $' % (self.pos(wl), self.pos(0), P),
+              '            (λ h. exec ! (𝓣 .C) (𝓣 .Λ) E its.t-3 (atRet E Upshot) $ assigns ! (of-opd ! (var ! %d refl)) (from ! (stop !)) (init ! %d refl (%s .typed 𝓤 H A W (x .0 .0) (x .1 .0))) $' % (self.pos(wl), self.pos(0), P),
               '            finishes ! (items rs %s (x .0 .1)) its.locals bs (%s) (look ! %d refl) (ends x h))' % (self.ls, cons('some _' for _ in range(tl + 1)), self.pos(0)), '',
-              '      walk : ent 𝓤 (⋆ 𝓤 H A (items rs %s %s)) (WpFn 𝓤 H (𝓣 .C) (𝓣 .Λ) code.function (pointers rs %s ++ machine ps %s) Post)' % (self.ls, self.xs, self.ls, self.as_), '      walk =',
+              '      walk : ent 𝓤 (⋆ 𝓤 H A (items rs %s %s)) (WpFn 𝓤 H (𝓣 .C) (𝓣 .Λ) code.function (pointers rs %s ++ machine ps %s) Upshot)' % (self.ls, self.xs, self.ls, self.as_), '      walk =',
               '          qed W (items rs %s %s) ∵ begins ! (𝓣 .C) (𝓣 .Λ) code.function _ _ _ refl (pointers rs %s ++ machine ps %s) %s _ _ (λ bs.' % (self.ls, self.xs, self.ls, self.as_, self.passes()),
               '          assigns ! (of-opd ! (var ! %d refl)) (from ! (stop !)) (init ! %d refl (%s .typed 𝓤 H A W a0 g0)) $ first ! $ blocks ! $' % (self.pos(start), self.pos(wl), P),
               '          loops ! 𝓣 _≺_ (InvImage·wf (λ (x : X). x @L@) (Nat·lt-wfRel .wf)) (I bs) (turns bs) (%s, (g0, refl)))' % st]
@@ -433,16 +433,16 @@ class Walk:
         o += ['      abbrev X : Type 0', '      X = (s : St) × Fits %s (s .0)' % P, '', '      abbrev _≺_ : X → X → Type 0', '      _≺_ x y = x @L@ < y @L@', '',
               '      module _ (bs : Locs its.locals) where', '        abbrev E : Env 𝓤 H', '        E = envOf H its.locals bs', '', '        -- local i stands at %d + 2i' % self.off, '        abbrev I : X → List (Item 𝓤)',
               '        I x = items rs %s (x .0 .1) ++ cells its.locals bs (none ∷ %ssome (%s .val a0) ∷ some (%s .val (x .0 .0)) ∷ [])' % (self.ls, ''.join('some (%s) ∷ ' % ('sliceVal (b%d, o%d) (length x%d)' % (j, j, j) if ts[j + 1][0] == 'slice' else 'vptr b%d o%d' % (j, j)) for j in range(k)), P, P), '',
-              '        abbrev Left : Out → SProp 𝓤', '        Left = afterBlock 𝓤 H (afterSeq 𝓤 H (Wp 𝓤 H (𝓣 .C) (𝓣 .Λ) E its.t-3 (atReturn 𝓤 H E Post)) (atReturn 𝓤 H E Post))', '',
+              '        abbrev Left : Out → SProp 𝓤', '        Left = afterBlock 𝓤 H (afterSeq 𝓤 H (Wp 𝓤 H (𝓣 .C) (𝓣 .Λ) E its.t-3 (atReturn 𝓤 H E Upshot)) (atReturn 𝓤 H E Upshot))', '',
               '        turns : (x : X) → Sq W (I x) (runs (𝓣 .C) (𝓣 .Λ) E its.turn-1 (anyQ (afterTurn 𝓤 H (Below 𝓤 H A _≺_ I x) Left)))', '        unfolding afterTurn', '        turns x =',
               '            assigns ! (bin ! (lit ! tt) (load ! (from ! %s) (look-in ! %d %s)) tt) (from ! (stop !)) (init ! %d refl (tt, tt)) $ tests ! (var ! %d refl)' % (self.fields, self.pos(wl), self.test, self.pos(tl), self.pos(tl)), '            (λ h.']
         o += ['            ' + l for l in self.lines]
         o += ['            calls-some-last ! (fmOf 𝓤 H (W .laws) 𝓣) %s (%s) %s (x .0 .1) refl _ %s (λ w zs. %s) (does 𝓤 H A W (𝓣 .C) (fmOf 𝓤 H (W .laws) 𝓣) #%s.name rs (%s ∷ []) %s (%s.clauses 𝓤 H A mem run) known-%s %s (x .0 .1) (x .0 .0, tt) (x .1, tt) (λ m. tt) (λ m. id⊢ 𝓤 _) (λ w zs. %s) (λ m w ws. id⊢ 𝓤 _))' % (rs[0], cons(rs[1:]), self.ls, P, phi, key, P, P, key, key, self.ls, phi),
               '            (λ i. %s) (λ w zs g p. land-last ! (from ! (stop !)) (store ! %d refl (%s .typed 𝓤 H A W _ g)) $ %s' % (self.operands([q[0] for q in os]), self.pos(wl), P, ' '.join('forget ! %d refl $' % self.pos(t) for t in temps)),
               '            again ! _≺_ I x ((w, zs), g) (p (ltb→lt 0 (x @L@) h))))',
-              '            (λ h. exec ! (𝓣 .C) (𝓣 .Λ) E its.t-3 (atRet E Post) $ assigns ! (of-opd ! (var ! %d refl)) (from ! (stop !)) (init ! %d refl (%s .typed 𝓤 H A W _ (x .1))) $' % (self.pos(wl), self.pos(0), P),
+              '            (λ h. exec ! (𝓣 .C) (𝓣 .Λ) E its.t-3 (atRet E Upshot) $ assigns ! (of-opd ! (var ! %d refl)) (from ! (stop !)) (init ! %d refl (%s .typed 𝓤 H A W _ (x .1))) $' % (self.pos(wl), self.pos(0), P),
               '            finishes ! (items rs %s (x .0 .1)) its.locals bs (%s) (look ! %d refl) (ended 𝓤 H A W rs %s %s Good (x .0 .0) (x .0 .1) (x .1) tt))' % (self.ls, cons('some _' for _ in range(tl + 1)), self.pos(0), self.ls, P), '',
-              '      walk : ent 𝓤 (⋆ 𝓤 H A (items rs %s %s)) (WpFn 𝓤 H (𝓣 .C) (𝓣 .Λ) code.function (pointers rs %s ++ machine ps %s) Post)' % (self.ls, self.xs, self.ls, self.as_), '      walk =',
+              '      walk : ent 𝓤 (⋆ 𝓤 H A (items rs %s %s)) (WpFn 𝓤 H (𝓣 .C) (𝓣 .Λ) code.function (pointers rs %s ++ machine ps %s) Upshot)' % (self.ls, self.xs, self.ls, self.as_), '      walk =',
               '          qed W (items rs %s %s) ∵ begins ! (𝓣 .C) (𝓣 .Λ) code.function _ _ _ refl (pointers rs %s ++ machine ps %s) %s _ _ (λ bs.' % (self.ls, self.xs, self.ls, self.as_, self.passes()),
               '          assigns ! (of-opd ! (var ! %d refl)) (from ! (stop !)) (init ! %d refl (%s .typed 𝓤 H A W a0 g0)) $ first ! $ blocks ! $' % (self.pos(start), self.pos(wl), P),
               '          loops ! 𝓣 _≺_ (InvImage·wf (λ (x : X). x @L@) (Nat·lt-wfRel .wf)) (I bs) (turns bs) ((a0, %s), g0))' % self.xs]

@@ -1,5 +1,5 @@
 //! `second` answers a trace on standard input, `second FILE` one in a file;
-//! `second --random SEED LINES` writes a trace.
+//! `second --random SEED LINES` writes a trace, `second --wide SEED LINES` one of a wider range.
 
 use std::fs::File;
 use std::io::{self, BufReader, BufWriter};
@@ -16,11 +16,12 @@ fn main() -> ExitCode {
         [file] if !file.starts_with("--") => {
             File::open(file).and_then(|file| trace::run(BufReader::new(file), output))
         }
-        ["--random", seed, lines] => match (seed.parse(), lines.parse()) {
+        [range @ ("--random" | "--wide"), seed, lines] => match (seed.parse(), lines.parse()) {
+            (Ok(seed), Ok(lines)) if range == "--wide" => random::write_wide(seed, lines, output),
             (Ok(seed), Ok(lines)) => random::write(seed, lines, output),
             _ => Err(io::Error::other("SEED and LINES are numbers")),
         },
-        _ => Err(io::Error::other("usage: second [FILE | --random SEED LINES]")),
+        _ => Err(io::Error::other("usage: second [FILE | --random SEED LINES | --wide SEED LINES]")),
     };
     match result {
         Ok(()) => ExitCode::SUCCESS,

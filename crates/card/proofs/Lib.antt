@@ -1,2 +1,3 @@
 mod Types
-mod Fresh
+pub mod Called
+pub mod Fresh

@@ -26,10 +26,13 @@ use Rattle.card.specs.declared.Limits.{Limits}
 use Rattle.walks.specs.declared.Moving.{Moving}
 use Rattle.rules.specs.declared.Pair.{Pair}
 use Rattle.engine.specs.declared.Plan.{Plan}
+use Rattle.rules.specs.declared.Post.{Post}
 use Rattle.rules.specs.declared.Reply.{Reply}
 use Rattle.engine.specs.declared.Scan.{Scan}
+use Rattle.rules.specs.declared.Settings.{Settings}
 use Rattle.engine.specs.declared.Settled.{Settled}
 use Rattle.rules.specs.declared.Slot.{Slot}
+use Rattle.card.specs.declared.Started.{Started}
 use Rattle.audit.specs.declared.Tracing.{Tracing}
 use Rattle.engine.proofs.Ask as m-Ask
 use Rattle.engine.proofs.Ask.Laws as l-Ask
@@ -57,14 +60,20 @@ use Rattle.rules.proofs.Pair as m-Pair
 use Rattle.rules.proofs.Pair.Laws as l-Pair
 use Rattle.engine.proofs.Plan as m-Plan
 use Rattle.engine.proofs.Plan.Laws as l-Plan
+use Rattle.rules.proofs.Post as m-Post
+use Rattle.rules.proofs.Post.Laws as l-Post
 use Rattle.rules.proofs.Reply as m-Reply
 use Rattle.rules.proofs.Reply.Laws as l-Reply
 use Rattle.engine.proofs.Scan as m-Scan
 use Rattle.engine.proofs.Scan.Laws as l-Scan
+use Rattle.rules.proofs.Settings as m-Settings
+use Rattle.rules.proofs.Settings.Laws as l-Settings
 use Rattle.engine.proofs.Settled as m-Settled
 use Rattle.engine.proofs.Settled.Laws as l-Settled
 use Rattle.rules.proofs.Slot as m-Slot
 use Rattle.rules.proofs.Slot.Laws as l-Slot
+use Rattle.card.proofs.Started as m-Started
+use Rattle.card.proofs.Started.Laws as l-Started
 use Rattle.audit.proofs.Tracing as m-Tracing
 use Rattle.audit.proofs.Tracing.Laws as l-Tracing
 
@@ -475,6 +484,38 @@ pub Plan-typed : {M : Type 1} (𝓤 : URA M) (H : Heap 𝓤) (A : Atoms 𝓤) (W
 unfolding Plan-ty
 Plan-typed 𝓤 H A W x g = QPlan .typed 𝓤 H A W x g
 
+abbrev pub Post-row : RattleType
+Post-row = m-Post.the-row
+
+abbrev pub Post-type : Declared
+Post-type = m-Post.the-type
+
+abbrev pub Post-laws : LL.Laws Post-type
+Post-laws = l-Post.the-laws
+
+abbrev pub Post-plain : Plains (fields Post-type)
+Post-plain = l-Post.the-plain
+
+abbrev pub PPost : Plain
+PPost = plain-struct Post-type Post-laws l-Post.the-copy Post-plain
+
+unfoldable pub Post-val : Post → Val
+Post-val x = PPost .val x
+
+pub Post-is : (x : Post) → Post-val x ≡ PPost .val x
+unfolding Post-val
+Post-is x = refl
+
+unfoldable pub Post-ty : Ty
+Post-ty = lone (Post-row .mir)
+
+abbrev pub QPost : Plain
+QPost = sealed PPost Post-val Post-is
+
+pub Post-typed : {M : Type 1} (𝓤 : URA M) (H : Heap 𝓤) (A : Atoms 𝓤) (W : Given 𝓤 H A) (x : Post) → Fits QPost x → Holds (hasTy Post-ty (Post-val x)) × WT (Post-val x)
+unfolding Post-ty
+Post-typed 𝓤 H A W x g = QPost .typed 𝓤 H A W x g
+
 abbrev pub Reply-row : RattleType
 Reply-row = m-Reply.the-row
 
@@ -529,6 +570,38 @@ QScan = sealed PScan Scan-val Scan-is
 pub Scan-typed : {M : Type 1} (𝓤 : URA M) (H : Heap 𝓤) (A : Atoms 𝓤) (W : Given 𝓤 H A) (x : Scan) → Fits QScan x → Holds (hasTy Scan-ty (Scan-val x)) × WT (Scan-val x)
 unfolding Scan-ty
 Scan-typed 𝓤 H A W x g = QScan .typed 𝓤 H A W x g
+
+abbrev pub Settings-row : RattleType
+Settings-row = m-Settings.the-row
+
+abbrev pub Settings-type : Declared
+Settings-type = m-Settings.the-type
+
+abbrev pub Settings-laws : LL.Laws Settings-type
+Settings-laws = l-Settings.the-laws
+
+abbrev pub Settings-plain : Plains (fields Settings-type)
+Settings-plain = l-Settings.the-plain
+
+abbrev pub PSettings : Plain
+PSettings = plain-struct Settings-type Settings-laws l-Settings.the-copy Settings-plain
+
+unfoldable pub Settings-val : Settings → Val
+Settings-val x = PSettings .val x
+
+pub Settings-is : (x : Settings) → Settings-val x ≡ PSettings .val x
+unfolding Settings-val
+Settings-is x = refl
+
+unfoldable pub Settings-ty : Ty
+Settings-ty = lone (Settings-row .mir)
+
+abbrev pub QSettings : Plain
+QSettings = sealed PSettings Settings-val Settings-is
+
+pub Settings-typed : {M : Type 1} (𝓤 : URA M) (H : Heap 𝓤) (A : Atoms 𝓤) (W : Given 𝓤 H A) (x : Settings) → Fits QSettings x → Holds (hasTy Settings-ty (Settings-val x)) × WT (Settings-val x)
+unfolding Settings-ty
+Settings-typed 𝓤 H A W x g = QSettings .typed 𝓤 H A W x g
 
 abbrev pub Settled-row : RattleType
 Settled-row = m-Settled.the-row
@@ -593,6 +666,38 @@ QSlot = sealed PSlot Slot-val Slot-is
 pub Slot-typed : {M : Type 1} (𝓤 : URA M) (H : Heap 𝓤) (A : Atoms 𝓤) (W : Given 𝓤 H A) (x : Slot) → Fits QSlot x → Holds (hasTy Slot-ty (Slot-val x)) × WT (Slot-val x)
 unfolding Slot-ty
 Slot-typed 𝓤 H A W x g = QSlot .typed 𝓤 H A W x g
+
+abbrev pub Started-row : RattleType
+Started-row = m-Started.the-row
+
+abbrev pub Started-type : Declared
+Started-type = m-Started.the-type
+
+abbrev pub Started-laws : LL.Laws Started-type
+Started-laws = l-Started.the-laws
+
+abbrev pub Started-plain : Plains (fields Started-type)
+Started-plain = l-Started.the-plain
+
+abbrev pub PStarted : Plain
+PStarted = plain-struct Started-type Started-laws l-Started.the-copy Started-plain
+
+unfoldable pub Started-val : Started → Val
+Started-val x = PStarted .val x
+
+pub Started-is : (x : Started) → Started-val x ≡ PStarted .val x
+unfolding Started-val
+Started-is x = refl
+
+unfoldable pub Started-ty : Ty
+Started-ty = lone (Started-row .mir)
+
+abbrev pub QStarted : Plain
+QStarted = sealed PStarted Started-val Started-is
+
+pub Started-typed : {M : Type 1} (𝓤 : URA M) (H : Heap 𝓤) (A : Atoms 𝓤) (W : Given 𝓤 H A) (x : Started) → Fits QStarted x → Holds (hasTy Started-ty (Started-val x)) × WT (Started-val x)
+unfolding Started-ty
+Started-typed 𝓤 H A W x g = QStarted .typed 𝓤 H A W x g
 
 abbrev pub Tracing-row : RattleType
 Tracing-row = m-Tracing.the-row

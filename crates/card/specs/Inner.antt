@@ -88,14 +88,18 @@ fill {A} row x = loop (λ (y : Filled A). y .work .left) (fillTurn row) x
 abbrev pub pairRow : ℕ → Pair
 pairRow i = closedPair
 
-unfoldable pub startOf : ℕ → ℕ → Ends → Started
-startOf pairs slots e =
-    if eqb pairs (small .pairs) && eqb slots (small .slots)
-    then
+-- all records are written, or none
+abbrev pub startsAll : Started
+startsAll =
     record {
       pairs = record { left = small .pairs };
       slots = record { left = small .slots };
       ends = record { first = 0; last = small .slots - 1 };
       reply = Answered Done 0 0;
     }
-    else record { pairs = record { left = 0 }; slots = record { left = 0 }; ends = e; reply = Refused 15 }
+
+abbrev pub startsNone : Ends → Started
+startsNone e = record { pairs = record { left = 0 }; slots = record { left = 0 }; ends = e; reply = Refused 15 }
+
+unfoldable pub startOf : ℕ → ℕ → Ends → Started
+startOf pairs slots e = if eqb pairs (small .pairs) && eqb slots (small .slots) then startsAll else startsNone e

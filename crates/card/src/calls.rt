@@ -59,7 +59,7 @@ pub fn open_pair(
         r (now (pairs .exit)) (now (ends .exit)) (now (slots .exit)) ⌝ }
 {
     let ask = to_open(settings, first);
-    let limits = limits_of(0, 0);
+    let limits = limits_of(1, 0);
     let mut done = [0u32; 1];
     let mut out = [0u8; 1];
     call(pairs, ends, slots, &mut done, &mut out, limits, pair, ask)
@@ -76,7 +76,7 @@ pub fn post_message(
         r (now (pairs .exit)) (now (ends .exit)) (now (slots .exit)) ⌝ }
 {
     let ask = to_post(post);
-    let limits = limits_of(0, 0);
+    let limits = limits_of(1, 0);
     let mut done = [0u32; 1];
     let mut out = [0u8; 1];
     call(pairs, ends, slots, &mut done, &mut out, limits, pair, ask)

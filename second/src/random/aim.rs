@@ -41,19 +41,24 @@ pub fn call(numbers: &mut Numbers, stage: &Stage, card: &Card, pair: &Pair) -> D
 fn choice(numbers: &mut Numbers, stage: &Stage, pair: &Pair) -> Choice {
     let useful = |is_useful: bool, weight: u64| if is_useful { weight } else { 20 };
     let trouble = stage.mood == Mood::Trouble;
+    let many = stage.mood == Mood::Many;
     let has_room = pair.held() < pair.settings.ceiling;
     let awaits = pair.oldest != pair.fresh;
     let emitted_read = emitted_reads(pair).next().is_some();
     let read_in_front = pair.packets.front().is_some_and(Packet::is_read);
     // A read of millions of PSNs is never answered to its end.
     let stuck = pair.packets.iter().any(|packet| packet.numbers() > 1000);
+    let acks = if many && has_room { 6 } else { 220 };
+    let posts = if many { 900 } else { 220 };
+    let timers = if many { 6 } else { 60 };
+    let closes = if stage.mood == Mood::Doors { 150 } else { 3 };
     numbers.weighted(&[
-        (useful(has_room, 220), Choice::Post),
+        (useful(has_room, posts), Choice::Post),
         (useful(pair.next != pair.given && pair.hold == 0, 240), Choice::Emit),
-        (useful(awaits, if trouble || read_in_front { 100 } else { 220 }), Choice::Ack),
+        (useful(awaits, if trouble || read_in_front { 100 } else { acks }), Choice::Ack),
         (useful(emitted_read, 260), Choice::Response),
-        (if trouble || pair.hold > 0 { 180 } else { 60 }, Choice::Timer),
-        (if stuck { 15 } else { 3 }, Choice::Close),
+        (if trouble || pair.hold > 0 { 180 } else { timers }, Choice::Timer),
+        (if stuck { closes.max(15) } else { closes }, Choice::Close),
         (2, Choice::Open),
     ])
 }
@@ -66,7 +71,11 @@ fn budget(numbers: &mut Numbers) -> u64 {
 }
 
 fn post(numbers: &mut Numbers, stage: &Stage, card: &Card, pair: &Pair) -> Draft {
-    let reads = if stage.mood == Mood::Reads { 6 } else { 2 };
+    let reads = match stage.mood {
+        Mood::Reads => 6,
+        Mood::Many => 0,
+        _ => 2,
+    };
     let kind = numbers.weighted(&[(4, Kind::Send), (3, Kind::Write), (reads, Kind::Read)]);
     let length = match kind {
         Kind::Read => read_length(numbers, pair),
@@ -124,7 +133,7 @@ fn sent_length(numbers: &mut Numbers, stage: &Stage, card: &Card, pair: &Pair) -
     let few = numbers.within(2..=4);
     let some = numbers.within(1..=to_ceiling.max(1));
     let packets = numbers.weighted(&[
-        (45, 1),
+        (if stage.mood == Mood::Many { 4000 } else { 45 }, 1),
         (30, few),
         (long, some),
         (long, to_ceiling),
@@ -189,7 +198,17 @@ fn syndrome(numbers: &mut Numbers, stage: &Stage) -> u64 {
     let trouble = if stage.mood == Mood::Trouble { 40 } else { 8 };
     let low = numbers.below(32);
     let any = numbers.below(256);
-    numbers.weighted(&[(60, low), (trouble, 32 + low), (8, 96), (2, 97), (2, 98), (1, 99), (2, any)])
+    let at_borders = if stage.mood == Mood::Doors { 30 } else { 0 };
+    numbers.weighted(&[
+        (60, low),
+        (trouble, 32 + low),
+        (8, 96),
+        (2, 97),
+        (2, 98),
+        (1, 99),
+        (2, any),
+        (at_borders, 94 + low % 8),
+    ])
 }
 
 /// The reads held that H is past.

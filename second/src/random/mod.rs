@@ -16,11 +16,19 @@ use crate::trace::Trace;
 use crate::words::Line;
 use draft::Draft;
 use numbers::Numbers;
-use stage::Stage;
+use stage::{Mood, Range, Stage};
 
 /// Writes so many lines of a trace; the same seed gives the same lines.
-pub fn write(seed: u64, lines: u64, mut output: impl Write) -> io::Result<()> {
-    let mut generator = Generator::new(seed);
+pub fn write(seed: u64, lines: u64, output: impl Write) -> io::Result<()> {
+    write_lines(Generator::new(seed), lines, output)
+}
+
+/// The same of a wider range of traces.
+pub fn write_wide(seed: u64, lines: u64, output: impl Write) -> io::Result<()> {
+    write_lines(Generator::wide(seed), lines, output)
+}
+
+fn write_lines(mut generator: Generator, lines: u64, mut output: impl Write) -> io::Result<()> {
     for _ in 0..lines {
         let (line, _) = generator.next_line();
         output.write_all(&line)?;
@@ -43,6 +51,7 @@ enum Topic {
 }
 
 pub struct Generator {
+    range: Range,
     numbers: Numbers,
     model: Trace,
     stage: Stage,
@@ -52,9 +61,17 @@ pub struct Generator {
 
 impl Generator {
     pub fn new(seed: u64) -> Generator {
+        Generator::of(seed, Range::Plain)
+    }
+
+    pub fn wide(seed: u64) -> Generator {
+        Generator::of(seed, Range::Wide)
+    }
+
+    fn of(seed: u64, range: Range) -> Generator {
         let mut numbers = Numbers::new(seed);
-        let stage = Stage::new(&mut numbers);
-        Generator { numbers, model: Trace::default(), stage, waiting: VecDeque::new() }
+        let stage = Stage::new(&mut numbers, range);
+        Generator { range, numbers, model: Trace::default(), stage, waiting: VecDeque::new() }
     }
 
     /// The tables after the lines so far.
@@ -65,7 +82,7 @@ impl Generator {
     /// The next line without its newline, and what it writes.
     pub fn next_line(&mut self) -> (Vec<u8>, String) {
         if self.stage.is_over() {
-            self.stage = Stage::new(&mut self.numbers);
+            self.stage = Stage::new(&mut self.numbers, self.range);
             self.clear_the_stage();
         }
         self.stage.lines_left -= 1;
@@ -103,13 +120,22 @@ impl Generator {
             Topic::Room => self.room(),
             Topic::Pair => self.pair_call(),
         };
-        if self.numbers.one_in(40) {
+        if self.numbers.one_in(self.lines_to_a_border(&draft)) {
             damage::to_a_border(&mut self.numbers, &mut draft);
         }
         if self.numbers.one_in(30) {
             return damage::restyled(&mut self.numbers, &draft);
         }
         draft.line()
+    }
+
+    /// One line in so many has an argument at a border.
+    fn lines_to_a_border(&self, draft: &Draft) -> u64 {
+        match self.range {
+            Range::Plain => 40,
+            Range::Wide if self.stage.mood == Mood::Doors && draft.name == "open" => 2,
+            Range::Wide => 15,
+        }
     }
 
     fn topic(&mut self) -> Topic {

@@ -78,6 +78,7 @@ fn room(numbers: &mut Numbers, stage: &Stage, left: u64) -> [u64; 2] {
         _ => numbers.weighted(&[(1, near_left), (2, half), (9, small)]),
     };
     let above = numbers.within(share..=all);
-    let ceiling = numbers.weighted(&[(3, all), (3, share), (2, (share + 5).min(all)), (3, above)]);
+    let whole = if stage.mood == Mood::Many { 40 } else { 3 };
+    let ceiling = numbers.weighted(&[(whole, all), (3, share), (2, (share + 5).min(all)), (3, above)]);
     [share, ceiling]
 }

@@ -92,6 +92,26 @@ fn invariants_hold_and_everything_is_reached() {
     assert!(completions.iter().all(|&count| count > 1000), "{completions:?}");
 }
 
+/// What plain traces seldom or never come to: many messages at once, openings at every border.
+#[test]
+fn wide_traces_reach_more() {
+    let (mut most, mut openings) = (0, BTreeMap::new());
+    for seed in 1..=3 {
+        let mut generator = Generator::wide(seed);
+        for step in 1..=10_000 {
+            let (line, answer) = generator.next_line();
+            assert_eq!(check(&generator.model().card), Ok(()), "seed {seed}, line {step}");
+            most = most.max(answer.matches(":0").count());
+            let outcome = outcome(&line, &answer);
+            if outcome.starts_with("open ") {
+                *openings.entry(outcome).or_insert(0) += 1;
+            }
+        }
+    }
+    assert!(most > 50, "{most} messages released at once");
+    assert!(openings["open refused 1"] > 50 && openings["open refused 3"] > 50, "{openings:?}");
+}
+
 #[test]
 fn read_again_as_text_a_trace_answers_the_same() {
     let mut generator = Generator::new(77);

@@ -42,6 +42,10 @@ fn writes_random_traces() {
     let mut expected = Vec::new();
     second::random::write(9, 200, &mut expected).expect("memory does not fail");
     assert!(output.status.success() && output.stdout == expected);
+    let output = program(&["--wide", "9", "200"], "");
+    expected.clear();
+    second::random::write_wide(9, 200, &mut expected).expect("memory does not fail");
+    assert!(output.status.success() && output.stdout == expected);
 }
 
 #[test]

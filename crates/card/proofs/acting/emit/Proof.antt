@@ -59,8 +59,8 @@ module _ {M : Type 1} (𝓤 : URA M) (H : Heap 𝓤) (A : Atoms 𝓤) (mem : Mem
       abbrev Good : Emitting → Helds rs → Type 0
       Good r zs = And rs (r ≡ Acting.emit x0 (record { work = a0; out = x1 }) .work) zs (x0, (Acting.emit x0 (record { work = a0; out = x1 }) .out, tt))
 
-      abbrev Post : Val → SProp 𝓤
-      Post = After 𝓤 H A rs (l0, (l1, tt)) PEmitting Good
+      abbrev Upshot : Val → SProp 𝓤
+      Upshot = After 𝓤 H A rs (l0, (l1, tt)) PEmitting Good
 
       abbrev X : Type 0
       X = (s : St) × (Fits PEmitting (s .0) × (outOf s ≡ outOf (a0, (x0, (x1, tt)))))
@@ -71,7 +71,7 @@ module _ {M : Type 1} (𝓤 : URA M) (H : Heap 𝓤) (A : Atoms 𝓤) (mem : Mem
       abbrev next : (x : X) → 0 < x .0 .0 .left → Fits PEmitting (turnOf (x .0) .0) → X
       next x l g = (turnOf (x .0), (g, sym (more-of (x .0) l) ∙ x .1 .1))
 
-      ends : (x : X) → Holds (not (ltb 0 (x .0 .0 .left))) → ent 𝓤 (⋆ 𝓤 H A (items rs (l0, (l1, tt)) (x .0 .1))) (Post (PEmitting .val (x .0 .0)))
+      ends : (x : X) → Holds (not (ltb 0 (x .0 .0 .left))) → ent 𝓤 (⋆ 𝓤 H A (items rs (l0, (l1, tt)) (x .0 .1))) (Upshot (PEmitting .val (x .0 .0)))
       ends x h = let g = nltb→le 0 (x .0 .0 .left) h in let e : x .0 ≡ outOf (a0, (x0, (x1, tt))) = sym (done-of (x .0) (omega (arith, g))) ∙ x .1 .1 in
           ended 𝓤 H A W rs (l0, (l1, tt)) PEmitting Good (x .0 .0) (x .0 .1) (x .1 .0) (ap (λ (s : St). s .0) e, (ap (λ (s : St). s .1 .0) e, ap (λ (s : St). s .1 .1 .0) e))
 
@@ -84,7 +84,7 @@ module _ {M : Type 1} (𝓤 : URA M) (H : Heap 𝓤) (A : Atoms 𝓤) (mem : Mem
         I x = items rs (l0, (l1, tt)) (x .0 .1) ++ cells its.locals bs (none ∷ some (sliceVal (b0, o0) (length x0)) ∷ some (sliceVal (b1, o1) (length x1)) ∷ some (PEmitting .val a0) ∷ some (PEmitting .val (x .0 .0)) ∷ [])
 
         abbrev Left : Out → SProp 𝓤
-        Left = afterBlock 𝓤 H (afterSeq 𝓤 H (Wp 𝓤 H (𝓣 .C) (𝓣 .Λ) E its.t-3 (atReturn 𝓤 H E Post)) (atReturn 𝓤 H E Post))
+        Left = afterBlock 𝓤 H (afterSeq 𝓤 H (Wp 𝓤 H (𝓣 .C) (𝓣 .Λ) E its.t-3 (atReturn 𝓤 H E Upshot)) (atReturn 𝓤 H E Upshot))
 
         turns : (x : X) → Sq W (I x) (runs (𝓣 .C) (𝓣 .Λ) E its.turn-1 (anyQ (afterTurn 𝓤 H (Below 𝓤 H A _≺_ I x) Left)))
         unfolding afterTurn
@@ -98,10 +98,10 @@ module _ {M : Type 1} (𝓤 : URA M) (H : Heap 𝓤) (A : Atoms 𝓤) (mem : Mem
             calls-last ! (fmOf 𝓤 H (W .laws) 𝓣) (slice Slot-row) ((slice (UInt w8)) ∷ []) (l0, (l1, tt)) (x .0 .1) (turnOf (x .0) .1) refl _ PEmitting (turnOf (x .0) .0) (does 𝓤 H A W (𝓣 .C) (fmOf 𝓤 H (W .laws) 𝓣) #emit-turn.name rs (PEmitting ∷ []) PEmitting (emit-turn.clauses 𝓤 H A mem run) known-emit-turn (l0, (l1, tt)) (x .0 .1) (x .0 .0, tt) (x .1 .0, tt) (λ m. tt) (λ m. id⊢ 𝓤 _) (λ w zs. And rs (w ≡ turnOf (x .0) .0) zs (turnOf (x .0) .1)) (λ m w ws. id⊢ 𝓤 _))
             (λ i. (and-then ! (var ! 18 refl) (and-then ! (var ! 22 refl) (and-then ! (var ! 12 refl) (no-more !))))) (λ g. land-last ! (from ! (stop !)) (store ! 12 refl (PEmitting .typed 𝓤 H A W (turnOf (x .0) .0) g)) $ forget ! 14 refl $ forget ! 16 refl $ forget ! 18 refl $ forget ! 20 refl $ forget ! 22 refl $
             again ! _≺_ I x (next x (ltb→lt 0 (x .0 .0 .left) h) g) (lefts (x .0) (ltb→lt 0 (x .0 .0 .left) h))))
-            (λ h. exec ! (𝓣 .C) (𝓣 .Λ) E its.t-3 (atRet E Post) $ assigns ! (of-opd ! (var ! 12 refl)) (from ! (stop !)) (init ! 4 refl (PEmitting .typed 𝓤 H A W (x .0 .0) (x .1 .0))) $
+            (λ h. exec ! (𝓣 .C) (𝓣 .Λ) E its.t-3 (atRet E Upshot) $ assigns ! (of-opd ! (var ! 12 refl)) (from ! (stop !)) (init ! 4 refl (PEmitting .typed 𝓤 H A W (x .0 .0) (x .1 .0))) $
             finishes ! (items rs (l0, (l1, tt)) (x .0 .1)) its.locals bs (some _ ∷ some _ ∷ some _ ∷ some _ ∷ some _ ∷ some _ ∷ []) (look ! 4 refl) (ends x h))
 
-      walk : ent 𝓤 (⋆ 𝓤 H A (items rs (l0, (l1, tt)) (x0, (x1, tt)))) (WpFn 𝓤 H (𝓣 .C) (𝓣 .Λ) code.function (pointers rs (l0, (l1, tt)) ++ machine ps (a0, tt)) Post)
+      walk : ent 𝓤 (⋆ 𝓤 H A (items rs (l0, (l1, tt)) (x0, (x1, tt)))) (WpFn 𝓤 H (𝓣 .C) (𝓣 .Λ) code.function (pointers rs (l0, (l1, tt)) ++ machine ps (a0, tt)) Upshot)
       walk =
           qed W (items rs (l0, (l1, tt)) (x0, (x1, tt))) ∵ begins ! (𝓣 .C) (𝓣 .Λ) code.function _ _ _ refl (pointers rs (l0, (l1, tt)) ++ machine ps (a0, tt)) ((tt, (tt, (record { fits = room0 .0 }, tt))), ((tt, (tt, (record { fits = room1 .0 }, tt))), ((PEmitting .typed 𝓤 H A W a0 g0), tt))) _ _ (λ bs.
           assigns ! (of-opd ! (var ! 10 refl)) (from ! (stop !)) (init ! 12 refl (PEmitting .typed 𝓤 H A W a0 g0)) $ first ! $ blocks ! $

@@ -93,8 +93,8 @@ module _ {M : Type 1} (𝓤 : URA M) (H : Heap 𝓤) (A : Atoms 𝓤) (mem : Mem
       abbrev Good : Joining → Helds rs → Type 0
       Good r zs = And rs (r ≡ Acting.joinTurn (record { work = a0; slots = x0 }) .work) zs (Acting.joinTurn (record { work = a0; slots = x0 }) .slots, tt)
 
-      abbrev Post : Val → SProp 𝓤
-      Post = After 𝓤 H A rs (l0, tt) PJoining Good
+      abbrev Upshot : Val → SProp 𝓤
+      Upshot = After 𝓤 H A rs (l0, tt) PJoining Good
 
       call-1 : FitsAll ((plain-uint w32) ∷ []) ((a0 .moving) .at, tt) → Gives 𝓤 H A (𝓣 .C) #place.name (machine ((plain-uint w32) ∷ []) ((a0 .moving) .at, tt)) (plain-uint w64) (λ w. w ≡ (val-1 x0 a0))
       unfolding val-1
@@ -128,7 +128,7 @@ module _ {M : Type 1} (𝓤 : URA M) (H : Heap 𝓤) (A : Atoms 𝓤) (mem : Mem
       unfolding val-1 val-2 val-3 val-4 last-5-0 last-6-0 val-7
       good = (refl, refl)
 
-      walk : ent 𝓤 (⋆ 𝓤 H A (items rs (l0, tt) (x0, tt))) (WpFn 𝓤 H (𝓣 .C) (𝓣 .Λ) code.function (pointers rs (l0, tt) ++ machine ps (a0, tt)) Post)
+      walk : ent 𝓤 (⋆ 𝓤 H A (items rs (l0, tt) (x0, tt))) (WpFn 𝓤 H (𝓣 .C) (𝓣 .Λ) code.function (pointers rs (l0, tt) ++ machine ps (a0, tt)) Upshot)
       walk =
           qed W (items rs (l0, tt) (x0, tt)) ∵ begins ! (𝓣 .C) (𝓣 .Λ) code.function _ _ _ locals-are (pointers rs (l0, tt) ++ machine ps (a0, tt)) ((tt, (tt, (record { fits = room0 .0 }, tt))), ((PJoining .typed 𝓤 H A W a0 g0), tt)) _ _ (λ bs.
           -- local i stands at 2 + 2i

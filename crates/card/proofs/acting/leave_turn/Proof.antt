@@ -90,8 +90,8 @@ module _ {M : Type 1} (𝓤 : URA M) (H : Heap 𝓤) (A : Atoms 𝓤) (mem : Mem
       abbrev Good : Leaving → Helds rs → Type 0
       Good r zs = And rs (r ≡ Acting.leaveTurn (record { work = a0; slots = x0; done = x1 }) .work) zs (Acting.leaveTurn (record { work = a0; slots = x0; done = x1 }) .slots, (Acting.leaveTurn (record { work = a0; slots = x0; done = x1 }) .done, tt))
 
-      abbrev Post : Val → SProp 𝓤
-      Post = After 𝓤 H A rs (l0, (l1, tt)) PLeaving Good
+      abbrev Upshot : Val → SProp 𝓤
+      Upshot = After 𝓤 H A rs (l0, (l1, tt)) PLeaving Good
 
       call-1 : FitsAll ((plain-uint w32) ∷ []) ((a0 .moving) .at, tt) → Gives 𝓤 H A (𝓣 .C) #place.name (machine ((plain-uint w32) ∷ []) ((a0 .moving) .at, tt)) (plain-uint w64) (λ w. w ≡ (val-1 x0 x1 a0))
       unfolding val-1
@@ -125,7 +125,7 @@ module _ {M : Type 1} (𝓤 : URA M) (H : Heap 𝓤) (A : Atoms 𝓤) (mem : Mem
       unfolding val-1 val-2 val-3 last-4-0 last-5-0 last-6-0 val-7
       good = (refl, (refl, refl))
 
-      walk : ent 𝓤 (⋆ 𝓤 H A (items rs (l0, (l1, tt)) (x0, (x1, tt)))) (WpFn 𝓤 H (𝓣 .C) (𝓣 .Λ) code.function (pointers rs (l0, (l1, tt)) ++ machine ps (a0, tt)) Post)
+      walk : ent 𝓤 (⋆ 𝓤 H A (items rs (l0, (l1, tt)) (x0, (x1, tt)))) (WpFn 𝓤 H (𝓣 .C) (𝓣 .Λ) code.function (pointers rs (l0, (l1, tt)) ++ machine ps (a0, tt)) Upshot)
       walk =
           qed W (items rs (l0, (l1, tt)) (x0, (x1, tt))) ∵ begins ! (𝓣 .C) (𝓣 .Λ) code.function _ _ _ locals-are (pointers rs (l0, (l1, tt)) ++ machine ps (a0, tt)) ((tt, (tt, (record { fits = room0 .0 }, tt))), ((tt, (tt, (record { fits = room1 .0 }, tt))), ((PLeaving .typed 𝓤 H A W a0 g0), tt))) _ _ (λ bs.
           -- local i stands at 4 + 2i

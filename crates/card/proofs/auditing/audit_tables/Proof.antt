@@ -87,8 +87,8 @@ module _ {M : Type 1} (𝓤 : URA M) (H : Heap 𝓤) (A : Atoms 𝓤) (mem : Mem
       abbrev Good : Audited → Helds rs → Type 0
       Good r zs = And rs (r ≡ Loops.audited (record { pairs = x0; ends = a0; slots = x1 })) zs (x0, (x1, tt))
 
-      abbrev Post : Val → SProp 𝓤
-      Post = After 𝓤 H A rs (l0, (l1, tt)) QAudited Good
+      abbrev Upshot : Val → SProp 𝓤
+      Upshot = After 𝓤 H A rs (l0, (l1, tt)) QAudited Good
 
       call-1 : FitsAll ((plain-uint w64) ∷ (plain-uint w64) ∷ []) (length x0, (length x1, tt)) → Gives 𝓤 H A (𝓣 .C) #begin-audit.name (machine ((plain-uint w64) ∷ (plain-uint w64) ∷ []) (length x0, (length x1, tt))) QAuditing (λ w. w ≡ (val-1 x0 x1 a0))
       unfolding val-1
@@ -114,7 +114,7 @@ module _ {M : Type 1} (𝓤 : URA M) (H : Heap 𝓤) (A : Atoms 𝓤) (mem : Mem
       unfolding val-1 val-2 val-3 val-4 val-5 Loops.audited
       good = (refl, (refl, refl))
 
-      walk : ent 𝓤 (⋆ 𝓤 H A (items rs (l0, (l1, tt)) (x0, (x1, tt)))) (WpFn 𝓤 H (𝓣 .C) (𝓣 .Λ) code.function (pointers rs (l0, (l1, tt)) ++ machine ps (a0, tt)) Post)
+      walk : ent 𝓤 (⋆ 𝓤 H A (items rs (l0, (l1, tt)) (x0, (x1, tt)))) (WpFn 𝓤 H (𝓣 .C) (𝓣 .Λ) code.function (pointers rs (l0, (l1, tt)) ++ machine ps (a0, tt)) Upshot)
       walk =
           qed W (items rs (l0, (l1, tt)) (x0, (x1, tt))) ∵ begins ! (𝓣 .C) (𝓣 .Λ) code.function _ _ _ locals-are (pointers rs (l0, (l1, tt)) ++ machine ps (a0, tt)) ((tt, (tt, (record { fits = room0 .0 }, tt))), ((tt, (tt, (record { fits = room1 .0 }, tt))), ((Ends-typed 𝓤 H A W a0 g0), tt))) _ _ (λ bs.
           -- local i stands at 4 + 2i

@@ -97,8 +97,8 @@ module _ {M : Type 1} (𝓤 : URA M) (H : Heap 𝓤) (A : Atoms 𝓤) (mem : Mem
       abbrev Good : Settled → Helds rs → Type 0
       Good r zs = And rs (r ≡ Inner.actedOn a0 a1 a2 x0 x1 x2 .settled) zs (Inner.actedOn a0 a1 a2 x0 x1 x2 .slots, (Inner.actedOn a0 a1 a2 x0 x1 x2 .numbers, (Inner.actedOn a0 a1 a2 x0 x1 x2 .bytes, tt)))
 
-      abbrev Post : Val → SProp 𝓤
-      Post = After 𝓤 H A rs (l0, (l1, (l2, tt))) QSettled Good
+      abbrev Upshot : Val → SProp 𝓤
+      Upshot = After 𝓤 H A rs (l0, (l1, (l2, tt))) QSettled Good
 
       call-1 : FitsAll (PLeaving ∷ []) (a2 .leaving, tt) → Does 𝓤 H A (𝓣 .C) #leave.name ((slice Slot-row) ∷ (slice (UInt w32)) ∷ []) (l0, (l1, tt)) (x0, (x1, tt)) (pointers ((slice Slot-row) ∷ (slice (UInt w32)) ∷ []) (l0, (l1, tt)) ++ machine (PLeaving ∷ []) (a2 .leaving, tt)) PLeaving (λ w zs. And ((slice Slot-row) ∷ (slice (UInt w32)) ∷ []) (w ≡ (val-1 x0 x1 x2 a0 a1 a2)) zs ((last-1-0 x0 x1 x2 a0 a1 a2), ((last-1-1 x0 x1 x2 a0 a1 a2), tt)))
       unfolding val-1 last-1-0 last-1-1
@@ -120,7 +120,7 @@ module _ {M : Type 1} (𝓤 : URA M) (H : Heap 𝓤) (A : Atoms 𝓤) (mem : Mem
       unfolding val-1 last-1-0 last-1-1 val-2 last-2-0 val-3 last-3-1 val-4
       good = (refl, (refl, (refl, refl)))
 
-      walk : ent 𝓤 (⋆ 𝓤 H A (items rs (l0, (l1, (l2, tt))) (x0, (x1, (x2, tt))))) (WpFn 𝓤 H (𝓣 .C) (𝓣 .Λ) code.function (pointers rs (l0, (l1, (l2, tt))) ++ machine ps (a0, (a1, (a2, tt)))) Post)
+      walk : ent 𝓤 (⋆ 𝓤 H A (items rs (l0, (l1, (l2, tt))) (x0, (x1, (x2, tt))))) (WpFn 𝓤 H (𝓣 .C) (𝓣 .Λ) code.function (pointers rs (l0, (l1, (l2, tt))) ++ machine ps (a0, (a1, (a2, tt)))) Upshot)
       walk =
           qed W (items rs (l0, (l1, (l2, tt))) (x0, (x1, (x2, tt)))) ∵ begins ! (𝓣 .C) (𝓣 .Λ) code.function _ _ _ locals-are (pointers rs (l0, (l1, (l2, tt))) ++ machine ps (a0, (a1, (a2, tt)))) ((tt, (tt, (record { fits = room0 .0 }, tt))), ((tt, (tt, (record { fits = room1 .0 }, tt))), ((tt, (tt, (record { fits = room2 .0 }, tt))), ((Pair-typed 𝓤 H A W a0 g0), ((Ends-typed 𝓤 H A W a1 g1), ((PPlan .typed 𝓤 H A W a2 g2), tt)))))) _ _ (λ bs.
           -- local i stands at 6 + 2i

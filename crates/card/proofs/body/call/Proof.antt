@@ -119,8 +119,8 @@ module _ {M : Type 1} (𝓤 : URA M) (H : Heap 𝓤) (A : Atoms 𝓤) (mem : Mem
       abbrev Good : Reply → Helds rs → Type 0
       Good r zs = And rs (r ≡ Inner.bodyIn a0 a1 a2 (record { pairs = x0; ends = x1; slots = x2 }) x3 x4 .reply) zs (Inner.bodyIn a0 a1 a2 (record { pairs = x0; ends = x1; slots = x2 }) x3 x4 .tables .pairs, (Inner.bodyIn a0 a1 a2 (record { pairs = x0; ends = x1; slots = x2 }) x3 x4 .tables .ends, (Inner.bodyIn a0 a1 a2 (record { pairs = x0; ends = x1; slots = x2 }) x3 x4 .tables .slots, (Inner.bodyIn a0 a1 a2 (record { pairs = x0; ends = x1; slots = x2 }) x3 x4 .numbers, (Inner.bodyIn a0 a1 a2 (record { pairs = x0; ends = x1; slots = x2 }) x3 x4 .bytes, tt)))))
 
-      abbrev Post : Val → SProp 𝓤
-      Post = After 𝓤 H A rs (l0, (l1, (l2, (l3, (l4, tt))))) PReply Good
+      abbrev Upshot : Val → SProp 𝓤
+      Upshot = After 𝓤 H A rs (l0, (l1, (l2, (l3, (l4, tt))))) PReply Good
 
       call-2 : FitsAll (QLimits ∷ QAsk ∷ (plain-uint w64) ∷ (plain-uint w64) ∷ []) (a0, (a2, (length x3, (length x4, tt)))) → Gives 𝓤 H A (𝓣 .C) #room-within.name (machine (QLimits ∷ QAsk ∷ (plain-uint w64) ∷ (plain-uint w64) ∷ []) (a0, (a2, (length x3, (length x4, tt))))) (plain-uint w64) (λ w. w ≡ (val-2 x0 x1 x2 x3 x4 a0 a1 a2))
       unfolding val-2
@@ -150,7 +150,7 @@ module _ {M : Type 1} (𝓤 : URA M) (H : Heap 𝓤) (A : Atoms 𝓤) (mem : Mem
       unfolding val-2 val-3 val-4 val-5 val-6 last-6-0 last-6-1 last-6-2 last-7-0 Inner.bodyIn Body.acted
       good = (refl, (refl, (refl, (refl, (refl, refl)))))
 
-      walk : ent 𝓤 (⋆ 𝓤 H A (items rs (l0, (l1, (l2, (l3, (l4, tt))))) (x0, (x1, (x2, (x3, (x4, tt))))))) (WpFn 𝓤 H (𝓣 .C) (𝓣 .Λ) code.function (pointers rs (l0, (l1, (l2, (l3, (l4, tt))))) ++ machine ps (a0, (a1, (a2, tt)))) Post)
+      walk : ent 𝓤 (⋆ 𝓤 H A (items rs (l0, (l1, (l2, (l3, (l4, tt))))) (x0, (x1, (x2, (x3, (x4, tt))))))) (WpFn 𝓤 H (𝓣 .C) (𝓣 .Λ) code.function (pointers rs (l0, (l1, (l2, (l3, (l4, tt))))) ++ machine ps (a0, (a1, (a2, tt)))) Upshot)
       walk =
           qed W (items rs (l0, (l1, (l2, (l3, (l4, tt))))) (x0, (x1, (x2, (x3, (x4, tt)))))) ∵ begins ! (𝓣 .C) (𝓣 .Λ) code.function _ _ _ locals-are (pointers rs (l0, (l1, (l2, (l3, (l4, tt))))) ++ machine ps (a0, (a1, (a2, tt)))) ((tt, (tt, (record { fits = room0 .0 }, tt))), ((tt, tt), ((tt, (tt, (record { fits = room2 .0 }, tt))), ((tt, (tt, (record { fits = room3 .0 }, tt))), ((tt, (tt, (record { fits = room4 .0 }, tt))), ((Limits-typed 𝓤 H A W a0 g0), (((plain-uint w32) .typed 𝓤 H A W a1 g1), ((Ask-typed 𝓤 H A W a2 g2), tt)))))))) _ _ (λ bs.
           -- local i stands at 10 + 2i

@@ -101,8 +101,8 @@ module _ {M : Type 1} (𝓤 : URA M) (H : Heap 𝓤) (A : Atoms 𝓤) (mem : Mem
       abbrev Good : Plan → Helds rs → Type 0
       Good r zs = And rs (r ≡ Inner.planWith a1 a2 (record { pairs = x0; ends = a0; slots = x1 }) a3) zs (x0, (x1, tt))
 
-      abbrev Post : Val → SProp 𝓤
-      Post = After 𝓤 H A rs (l0, (l1, tt)) QPlan Good
+      abbrev Upshot : Val → SProp 𝓤
+      Upshot = After 𝓤 H A rs (l0, (l1, tt)) QPlan Good
 
       call-1 : FitsAll (QEnds ∷ []) (a0, tt) → Does 𝓤 H A (𝓣 .C) #audit-tables.name ((slice Pair-row) ∷ (slice Slot-row) ∷ []) (l0, (l1, tt)) (x0, (x1, tt)) (pointers ((slice Pair-row) ∷ (slice Slot-row) ∷ []) (l0, (l1, tt)) ++ machine (QEnds ∷ []) (a0, tt)) QAudited (λ w zs. And ((slice Pair-row) ∷ (slice Slot-row) ∷ []) (w ≡ (val-1 x0 x1 a0 a1 a2 a3)) zs (x0, (x1, tt)))
       unfolding val-1
@@ -132,7 +132,7 @@ module _ {M : Type 1} (𝓤 : URA M) (H : Heap 𝓤) (A : Atoms 𝓤) (mem : Mem
       unfolding val-1 val-2 val-3 val-4 val-5 val-6 Body.scanOf
       good = (refl, (refl, refl))
 
-      walk : ent 𝓤 (⋆ 𝓤 H A (items rs (l0, (l1, tt)) (x0, (x1, tt)))) (WpFn 𝓤 H (𝓣 .C) (𝓣 .Λ) code.function (pointers rs (l0, (l1, tt)) ++ machine ps (a0, (a1, (a2, (a3, tt))))) Post)
+      walk : ent 𝓤 (⋆ 𝓤 H A (items rs (l0, (l1, tt)) (x0, (x1, tt)))) (WpFn 𝓤 H (𝓣 .C) (𝓣 .Λ) code.function (pointers rs (l0, (l1, tt)) ++ machine ps (a0, (a1, (a2, (a3, tt))))) Upshot)
       walk =
           qed W (items rs (l0, (l1, tt)) (x0, (x1, tt))) ∵ begins ! (𝓣 .C) (𝓣 .Λ) code.function _ _ _ locals-are (pointers rs (l0, (l1, tt)) ++ machine ps (a0, (a1, (a2, (a3, tt))))) ((tt, (tt, (record { fits = room0 .0 }, tt))), ((tt, (tt, (record { fits = room1 .0 }, tt))), ((Ends-typed 𝓤 H A W a0 g0), (((plain-uint w32) .typed 𝓤 H A W a1 g1), ((Ask-typed 𝓤 H A W a2 g2), (((plain-uint w64) .typed 𝓤 H A W a3 g3), tt)))))) _ _ (λ bs.
           -- local i stands at 4 + 2i

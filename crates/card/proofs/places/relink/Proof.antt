@@ -60,8 +60,8 @@ module _ {M : Type 1} (𝓤 : URA M) (H : Heap 𝓤) (A : Atoms 𝓤) (mem : Mem
       abbrev Good : Unit {0} → Helds rs → Type 0
       Good r zs = And rs (r ≡ tt) zs (Slots.relinked a0 a1 x0, tt)
 
-      abbrev Post : Val → SProp 𝓤
-      Post = After 𝓤 H A rs (l0, tt) plain-unit Good
+      abbrev Upshot : Val → SProp 𝓤
+      Upshot = After 𝓤 H A rs (l0, tt) plain-unit Good
 
       call-1 : FitsAll ((plain-uint w64) ∷ []) (a0, tt) → Does 𝓤 H A (𝓣 .C) #slot-at.name ((slice Slot-row) ∷ []) (l0, tt) (x0, tt) (pointers ((slice Slot-row) ∷ []) (l0, tt) ++ machine ((plain-uint w64) ∷ []) (a0, tt)) QSlot (λ w zs. And ((slice Slot-row) ∷ []) (w ≡ (val-1 x0 a0 a1)) zs (x0, tt))
       unfolding val-1
@@ -79,7 +79,7 @@ module _ {M : Type 1} (𝓤 : URA M) (H : Heap 𝓤) (A : Atoms 𝓤) (mem : Mem
       unfolding val-1 val-2 last-3-0 Slots.relinked
       good = (refl, refl)
 
-      walk : ent 𝓤 (⋆ 𝓤 H A (items rs (l0, tt) (x0, tt))) (WpFn 𝓤 H (𝓣 .C) (𝓣 .Λ) code.function (pointers rs (l0, tt) ++ machine ps (a0, (a1, tt))) Post)
+      walk : ent 𝓤 (⋆ 𝓤 H A (items rs (l0, tt) (x0, tt))) (WpFn 𝓤 H (𝓣 .C) (𝓣 .Λ) code.function (pointers rs (l0, tt) ++ machine ps (a0, (a1, tt))) Upshot)
       walk =
           qed W (items rs (l0, tt) (x0, tt)) ∵ begins ! (𝓣 .C) (𝓣 .Λ) code.function _ _ _ locals-are (pointers rs (l0, tt) ++ machine ps (a0, (a1, tt))) ((tt, (tt, (record { fits = room0 .0 }, tt))), (((plain-uint w64) .typed 𝓤 H A W a0 g0), (((plain-uint w32) .typed 𝓤 H A W a1 g1), tt))) _ _ (λ bs.
           -- local i stands at 2 + 2i

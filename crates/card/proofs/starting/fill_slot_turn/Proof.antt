@@ -71,8 +71,8 @@ module _ {M : Type 1} (𝓤 : URA M) (H : Heap 𝓤) (A : Atoms 𝓤) (mem : Mem
       abbrev Good : Filling → Helds rs → Type 0
       Good r zs = And rs (r ≡ Inner.fillTurn Inner.freeSlot (record { work = a0; rows = x0 }) .work) zs (Inner.fillTurn Inner.freeSlot (record { work = a0; rows = x0 }) .rows, tt)
 
-      abbrev Post : Val → SProp 𝓤
-      Post = After 𝓤 H A rs (l0, tt) PFilling Good
+      abbrev Upshot : Val → SProp 𝓤
+      Upshot = After 𝓤 H A rs (l0, tt) PFilling Good
 
       call-1 : FitsAll (PFilling ∷ []) (a0, tt) → Gives 𝓤 H A (𝓣 .C) #fill-place.name (machine (PFilling ∷ []) (a0, tt)) (plain-uint w64) (λ w. w ≡ (val-1 x0 a0))
       unfolding val-1
@@ -94,7 +94,7 @@ module _ {M : Type 1} (𝓤 : URA M) (H : Heap 𝓤) (A : Atoms 𝓤) (mem : Mem
       unfolding val-1 val-2 last-3-0 val-4
       good = (refl, refl)
 
-      walk : ent 𝓤 (⋆ 𝓤 H A (items rs (l0, tt) (x0, tt))) (WpFn 𝓤 H (𝓣 .C) (𝓣 .Λ) code.function (pointers rs (l0, tt) ++ machine ps (a0, tt)) Post)
+      walk : ent 𝓤 (⋆ 𝓤 H A (items rs (l0, tt) (x0, tt))) (WpFn 𝓤 H (𝓣 .C) (𝓣 .Λ) code.function (pointers rs (l0, tt) ++ machine ps (a0, tt)) Upshot)
       walk =
           qed W (items rs (l0, tt) (x0, tt)) ∵ begins ! (𝓣 .C) (𝓣 .Λ) code.function _ _ _ locals-are (pointers rs (l0, tt) ++ machine ps (a0, tt)) ((tt, (tt, (record { fits = room0 .0 }, tt))), ((PFilling .typed 𝓤 H A W a0 g0), tt)) _ _ (λ bs.
           -- local i stands at 2 + 2i

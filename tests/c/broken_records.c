@@ -1,0 +1,63 @@
+/* States; "open pairs' settings are in range, their PSNs and their slots' below 2^24, counts left at most their settings, each held count at most its
+ * ceiling"; "a ready pair's hold is at most 655,360,000 ns, its elapsed time below the timeout, and 0 if U = H, hold is over 0 or the timeout code is
+ * 0"; "the sum over open pairs (ready or ended) of the larger of share and held is at most 256" */
+#include "scene.h"
+
+enum { TOO_FAR = KAMUSSEORI_PSNS };
+
+static const struct variant list[] = {
+    {"a state of 3", {STATE(EMPTY, 3)}},
+    {"a state far out", {STATE(CLOSED_ONE, 0xffffffff)}},
+    {"a state of 256", {STATE(CLOSED_ONE, 256)}},
+    {"far pair of 2^24", {SETTING(REAR, far, TOO_FAR)}},
+    {"an ended pair's far pair of 2^24", {SETTING(ENDED_ONE, far, TOO_FAR)}},
+    {"P_Key of 17 bits", {SETTING(REAR, pkey, 65536)}},
+    {"PMTU code 0", {SETTING(EMPTY, pmtu, 0)}},
+    {"PMTU code 6", {SETTING(EMPTY, pmtu, 6)}},
+    {"an ended pair's PMTU code 6", {SETTING(ENDED_ONE, pmtu, 6)}},
+    {"PMTU code far out", {SETTING(REAR, pmtu, 0xfffffff9)}},
+    {"share 0", {SETTING(READS, share, 0)}},
+    {"an ended pair's share over its ceiling", {SETTING(ENDED_ONE, ceiling, 2)}},
+    {"share over ceiling", {SETTING(REAR, ceiling, 7)}},
+    {"ceiling 257", {SETTING(EMPTY, ceiling, 257)}},
+    {"an ended pair's ceiling 257", {SETTING(ENDED_ONE, ceiling, 257)}},
+    {"retry 8", {SETTING(REAR, retry, 8)}},
+    {"RNR retry 8", {SETTING(REAR, rnr, 8)}},
+    {"timeout code 32", {SETTING(REAR, timeout, 32)}},
+    {"timeout code 64", {SETTING(EMPTY, timeout, 64)}},
+    {"an ended pair's timeout code 32", {SETTING(ENDED_ONE, timeout, 32)}},
+    {"U of 2^24 and more", {LINE(READS, u, TOO_FAR + 102)}},
+    {"X of 2^24 and more", {LINE(READS, x, TOO_FAR + 109)}},
+    {"H of 2^24 and more", {LINE(READS, h, TOO_FAR + 109)}},
+    {"N of 2^24 and more", {LINE(READS, n, TOO_FAR + 110)}},
+    {"all four of 2^24 and more", {LINE(EMPTY, u, TOO_FAR), LINE(EMPTY, x, TOO_FAR), LINE(EMPTY, h, TOO_FAR), LINE(EMPTY, n, TOO_FAR)}},
+    {"an ended pair's U of 2^24", {LINE(ENDED_ONE, u, TOO_FAR)}},
+    {"an ended pair's X of 2^24", {LINE(ENDED_ONE, x, TOO_FAR)}},
+    {"an ended pair's H of 2^24", {LINE(ENDED_ONE, h, TOO_FAR)}},
+    {"an ended pair's N of 2^24", {LINE(ENDED_ONE, n, TOO_FAR)}},
+    {"a first slot's PSN of 2^24 and more", {PACKET(REAR_MIDDLE, psn, TOO_FAR)}},
+    {"a later slot's PSN of 2^24 and more", {PACKET(ONLY, psn, TOO_FAR + 5)}},
+    {"a read's PSN of 2^24 and more", {PACKET(READ_NEXT, psn, TOO_FAR + 106)}},
+    {"retry count over its setting", {SETTING(REAR, retry, 3), CLOCK(REAR, retries, 4)}},
+    {"retry count far out", {CLOCK(EMPTY, retries, 0xffffffff)}},
+    {"an ended pair's retry count over its setting", {CLOCK(ENDED_ONE, retries, 8)}},
+    {"RNR count over its setting", {CLOCK(HELD_ONE, rnrs, 4)}},
+    {"RNR count far out", {CLOCK(EMPTY, rnrs, 0x80000000)}},
+    {"an ended pair's RNR count over its setting", {CLOCK(ENDED_ONE, rnrs, 2)}},
+    {"held over the ceiling", {SETTING(READS, ceiling, 3)}},
+    {"hold over 655,360,000", {CLOCK(HELD_ONE, hold, 655360001)}},
+    {"hold of 2^32", {CLOCK(HELD_ONE, hold, 0x100000000)}},
+    {"elapsed time at the timeout", {CLOCK(REAR, elapsed, 4096 << 14)}},
+    {"elapsed time of 2^32 and more", {CLOCK(REAR, elapsed, 0x100000064)}},
+    {"elapsed time far out", {CLOCK(REAR, elapsed, 0xffffffffffffffff)}},
+    {"elapsed time with U = H", {CLOCK(STILL, elapsed, 1)}},
+    {"an empty pair's elapsed time", {CLOCK(EMPTY, elapsed, 1)}},
+    {"elapsed time with a hold", {CLOCK(HELD_ONE, elapsed, 1)}},
+    {"elapsed time with timeout code 0", {CLOCK(FAR, elapsed, 1)}},
+    {"the sum over 256 by an empty pair's share", {SETTING(EMPTY, share, EMPTY_SHARE + 2)}},
+    {"the sum over 256 by an ended pair's share", {SETTING(ENDED_ONE, share, 5)}},
+    {"the sum over 256 by a share over held", {SETTING(REAR, share, 10)}},
+    {"the sum over 256 by held over share", {SETTING(EMPTY, share, EMPTY_SHARE + 1), SETTING(READS, share, 5)}},
+};
+
+const struct variants broken_records = VARIANTS(list);

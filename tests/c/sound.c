@@ -1,0 +1,58 @@
+/* What the audit must let pass: each rule's last allowed number, and fields that it does not ask for. */
+#include "scene.h"
+
+#define LAST_OFFSET 0xffffffff
+#define LAST_ADDRESS 0xffffffffffffffff
+
+static const struct variant list[] = {
+    {"nothing changed", {{0}}},
+    {"a closed record's other fields",
+     {SETTING(CLOSED_ONE, far, 0xffffffff), SETTING(CLOSED_ONE, share, 300), LINE(CLOSED_ONE, u, 0xffffffff), CLOCK(CLOSED_ONE, retries, 99),
+      CLOCK(CLOSED_ONE, elapsed, LAST_ADDRESS), CLOCK(CLOSED_ONE, hold, LAST_ADDRESS)}},
+    {"a free slot's packet", {PACKET(FREE_FIRST, opcode, 99), PACKET(FREE_FIRST, psn, 0xffffffff), PACKET(FREE_FIRST, length, 0xffffffff)}},
+    {"an ended pair's U, X, H, N apart", {LINE(ENDED_ONE, u, 9), LINE(ENDED_ONE, x, 3), LINE(ENDED_ONE, h, 16777215)}},
+    {"an ended pair's times", {CLOCK(ENDED_ONE, elapsed, LAST_ADDRESS), CLOCK(ENDED_ONE, hold, LAST_ADDRESS)}},
+    {"the longest hold", {CLOCK(HELD_ONE, hold, 655360000)}},
+    {"a hold, and nothing out", {CLOCK(STILL, hold, 1)}},
+    {"elapsed time just below the timeout", {CLOCK(REAR, elapsed, (4096 << 14) - 1)}},
+    {"the longest timeout", {SETTING(REAR, timeout, 31), CLOCK(REAR, elapsed, ((uint64_t)4096 << 31) - 1)}},
+    {"counts of 0", {CLOCK(REAR, retries, 0), CLOCK(REAR, rnrs, 0)}},
+    {"settings at their ends",
+     {SETTING(EMPTY, far, 16777215), SETTING(EMPTY, pkey, 0), SETTING(EMPTY, pmtu, 5), SETTING(EMPTY, ceiling, EMPTY_SHARE)}},
+    {"the sum 256 by an empty pair's share", {SETTING(EMPTY, share, EMPTY_SHARE + 1)}},
+    {"the sum 256 by an ended pair's share", {SETTING(ENDED_ONE, share, 4)}},
+    {"a share up to held", {SETTING(READS, share, 4)}},
+    {"held at the ceiling", {SETTING(READS, ceiling, 4)}},
+    {"an ended pair ready again", {STATE(ENDED_ONE, KAMUSSEORI_STATE_READY)}},
+    {"an empty pair ended", {STATE(EMPTY, KAMUSSEORI_STATE_ENDED)}},
+    {"X at U", {LINE(REAR, x, 0)}},
+    {"X at a partly answered read's U", {LINE(READS, x, 102)}},
+    {"X at a later read's start", {LINE(READS, x, 106)}},
+    {"X and H at N", {LINE(REAR, x, 6), LINE(REAR, h, 6)}},
+    {"H at the end of a partly answered read", {LINE(READS, x, 102), LINE(READS, h, 105)}},
+    {"a read partly answered up to its last place", {LINE(READS, u, 104)}},
+    {"a rear part that starts with its Last",
+     {QUEUE(REAR, first, REAR_LAST), QUEUE(REAR, held, 5), LINE(REAR, u, 1), LINK(FREE_LAST, REAR_MIDDLE), LINK(REAR_MIDDLE, NONE),
+      ENDS(last, REAR_MIDDLE)}},
+    {"a rear part with room for one packet ahead", {PACKET(REAR_MIDDLE, offset, 256), PACKET(REAR_LAST, offset, 512)}},
+    {"a rear part up to the end of the card's memory",
+     {PACKET(REAR_MIDDLE, offset, LAST_OFFSET - 487), PACKET(REAR_LAST, offset, LAST_OFFSET - 231)}},
+    {"a Last of 1", {PACKET(REAR_LAST, length, 1)}},
+    {"a Last of the PMTU", {PACKET(REAR_LAST, length, 256)}},
+    {"an Only of 0", {PACKET(ONLY, length, 0)}},
+    {"an Only of the PMTU", {PACKET(ONLY, length, 256)}},
+    {"an Only up to the end of the card's memory", {PACKET(ONLY, offset, LAST_OFFSET - 9)}},
+    {"a Write up to the last address", {PACKET(WRITE_FIRST, address, LAST_ADDRESS - 599)}},
+    {"a read up to the last address", {PACKET(READ_NEXT, address, LAST_ADDRESS - 699)}},
+    {"a Write Only of 0 at the last address",
+     {PACKET(WRITE_ONLY, address, LAST_ADDRESS), PACKET(WRITE_ONLY, length, 0), PACKET(WRITE_ONLY, total, 0)}},
+    {"a read of 2^31 - 1",
+     {SETTING(FAR, pmtu, 2), PACKET(FAR_READ, length, 0x7fffffff), PACKET(FAR_READ, total, 0x7fffffff), LINE(FAR, x, 500 + (1 << 22)),
+      LINE(FAR, h, 500 + (1 << 22)), LINE(FAR, n, 500 + (1 << 22))}},
+    {"any key and immediate", {PACKET(WRITE_FIRST, key, 0xffffffff), PACKET(WRITE_LAST, value, 0xffffffff), PACKET(READ_NEXT, key, 0)}},
+    {"another ticket for a whole message", {PACKET(REAR_MIDDLE, ticket, 0xffffffff), PACKET(REAR_LAST, ticket, 0xffffffff)}},
+    {"an immediate for the rear part", {PACKET(REAR_LAST, opcode, 3), PACKET(REAR_LAST, value, 5)}},
+    {"a rear part of a Write", {PACKET(REAR_MIDDLE, opcode, 7), PACKET(REAR_LAST, opcode, 8)}},
+};
+
+const struct variants sound = VARIANTS(list);
