@@ -93,3 +93,14 @@ named('close_pair', ('{4}', 'closing {3}'), 'Close', *NUMBERS)
 walk('audit', 'Passes.passes Card.small ' + T, ['{0}', '{1}', '{2}'], good='(Decided.audited-is %s, (refl, (refl, refl)))' % T)
 START = 'Calls.call Card.small Requests.starting ' + T
 walk('fresh_start', START + ' .said .reply', [START + ' .next .' + x for x in ('pairs', 'ends', 'slots')], good='Fresh.started-is {0} {1} {2}')
+
+# ---- for C: the same calls, the answer in numbers
+value(said_of='Flat.saidOf {0}', post_of='Flat.postOf {0}', number_if='Flat.numberIf {0}')
+USES['Flat'] = 'Rattle.host.specs.Flat'
+def exported(n, of, **change):
+    f, z = FN[of]['f'], FN[of]['z']
+    for a, b in change.items(): f, z = f.replace(a, b), [x.replace(a, b) for x in z]
+    walk('kamusseori_' + n, 'Flat.saidOf (%s)' % f, z)
+for n, of in (('fresh', 'fresh_start'), ('open', 'open_pair'), ('emit', 'emit_packets'), ('acknowledge', 'acknowledge'), ('response', 'read_response'), ('timer', 'timer_step'), ('close', 'close_pair')): exported(n, of)
+exported('post', 'post_message', **{'{4}': '(Flat.postOf {4})'})
+walk('kamusseori_audit', 'Flat.numberIf (%s)' % FN['audit']['f'], FN['audit']['z'])
