@@ -68,8 +68,11 @@ for s, row, T in (('pair', 'Inner.pairRow', 'Pair'), ('slot', 'Inner.freeSlot', 
 value(room_within='Asked.lentOf {1} (min ({0} .numbers) {2}) (min ({0} .bytes) {3})', limits_of='record { numbers = {0}; bytes = {1} }', plan_of='Planning.planOf {0} {1} {2} {3} {4} {5} {6}', settle='Settling.settledOf {0} {1} {2} {3} {4} {5}',
       to_open='ask.Open {0} {1}', to_post='ask.Post {0}', to_emit='ask.Emit {0}', to_acknowledge='ask.Acknowledge {0} {1}', to_respond='ask.Respond {0} {1} {2}', to_tick='ask.Tick {0}', to_close='ask.Close')
 walk('decide', 'Inner.planWith {3} {4} (record { pairs = {0}; ends = {2}; slots = {1} }) {5}', ['{0}', '{1}'], unfold=['Body.scanOf'])
-ACTED = 'Inner.actedOn {3} {4} {5} {0} {1} {2}'
-walk('act', ACTED + ' .settled', [ACTED + x for x in (' .slots', ' .numbers', ' .bytes')])
+value(walked_of='record { leaving = {0}; joining = {1}; emitting = {2} }', finish='Inner.finished {0} {1} {2} {3}')
+ACTED = 'Inner.actedOn {3} {0} {1} {2}'
+walk('act', ACTED + ' .walked', [ACTED + x for x in (' .slots', ' .numbers', ' .bytes')])
+walk('advance', 'Inner.finished {0} {1} {2} {3}', ['Inner.finished {0} {1} {2} {3} .pair'])
+walk('advance_at', 'Inner.finished (Slots.pairAt {0} {1}) {2} {3} {4}', ['set {0} {1} (Inner.finished (Slots.pairAt {0} {1}) {2} {3} {4} .pair)'], cites='elem-meets', unfold=['Slots.pairAt'])
 BODY = 'Inner.bodyIn {5} {6} {7} (record { pairs = {0}; ends = {1}; slots = {2} }) {3} {4}'
 walk('call', BODY + ' .reply', [BODY + x for x in (' .tables .pairs', ' .tables .ends', ' .tables .slots', ' .numbers', ' .bytes')], unfold=['Inner.bodyIn', 'Body.acted'])
 

@@ -43,6 +43,7 @@ def functions(crate):
 def ty(t):
     if t == 'tyUnit': return ('unit',)
     if t == 'tyBool': return ('bool',)
+    if t == 'tyPtr': return ('ptr', ('unit',))
     if t[0] == 'tyInt': return ('int', int(t[1]))
     if t[0] == 'tyArray': return ('array', ty(t[1]), int(t[2][1]))
     if t[0] == 'tyNamed': n = t[1][1].split('::')[-1]; HOME[n] = t[1][1]; return ('struct', n)
@@ -501,11 +502,34 @@ def record(n, fns, crate):
             'pub %s-spec : {M : Type 1} → stated.statement M' % hy(n), 'unfolding code.routine tablesOf', '%s-spec 𝓤 H 𝓜 𝓖 𝓡 =' % hy(n),
             '    entered 𝓤 H (tripleOf 𝓤 H (𝓖 .A) f.signature (f.spec 𝓤 H (𝓖 .A) (𝓜 .mem) (𝓡 .run))) (tables 𝓤 H 𝓜 𝓡 code.env .C) (tables 𝓤 H 𝓜 𝓡 code.env .Λ) #f code.function (code.unfolded 𝓤 H 𝓜 𝓡)',
             '    (%s T.the-type T′.the-laws T′.the-copy T′.the-plain tt 𝓤 H (𝓖 .A) (givenOf 𝓤 H 𝓜 𝓖) (tablesOf 𝓤 H 𝓜 (tables 𝓤 H 𝓜 𝓡 code.env)))' % law]
+# an element lent to a call: what its three callees do is read off their entries of the table
+def element(n, fns, structs, crate):
+    w = Walk(n, fns, structs); OPENED.clear(); law = FN[n]['cites']; S = w.tys[1][1][1]; ts = [w.tys[i] for i in w.plains[1:]]; b = w.fn['body'][2][2][1]; called_by = lambda c: c[1][1][1].split('::')[-1]; then = b[2]
+    assert w.k == 1 and len(ts) == 3 and b[0] == 'if' and b[3][0] == 'seq', 'the shape of %s' % law
+    while then[0] == 'seq': then = then[2]
+    act, none, past = called_by(then), called_by(b[3][1]), called_by(b[3][2]); w.used = [act, none, past]; d = FN[none]['f']; args = ['y'] + ['a %s.0' % ('.1 ' * i) for i in range(3)]
+    assert FN[act]['f'] == FN[past]['f'], 'both branches make the same'
+    at = ('Rattle.%s.proofs.' % crate if home(S) == crate else 'Rattle.%s.proofs.' % home(S)) + '.'.join(HOME[S].split('::')[1:]); res = plain(w.tys[0]); k = lambda f: 'gives 𝓤 H A W (𝓣 .C) (fmOf 𝓤 H (W .laws) 𝓣) #%s.name' % hy(f)
+    o = w.head('`%s` of `lent` at `%s`.' % (law, S)); o.insert(-1, 'use %s.Laws as T′' % at); o.insert(-1, 'use Rattle.lent.proofs.Elem.{%s}' % law); o.insert(-1, 'use Rattle.lent.proofs.Plain.{Values}')
+    o += ['abbrev one : List Ref', 'one = (cell %s-row) ∷ []' % S, '', 'abbrev ps : List Plain', 'ps = ' + cons(plain(t) for t in ts), '',
+          '-- what the element comes to, and what it is then', 'abbrev made : %s → Values ps → %s' % (S, den(w.tys[0])), 'made y a = ' + sub(FN[act]['f'], args), '', 'abbrev left : %s → Values ps → %s' % (S, S), 'left y a = ' + sub(FN[act]['z'][0], args), '',
+          'module _ {M : Type 1} (𝓤 : URA M) (H : Heap 𝓤) (A : Atoms 𝓤) (mem : Memory → SProp 𝓤) (run : Routine → Fun 𝓤) where']
+    for f in w.used: o += ['  abbrev %s-ctr : Contract 𝓤' % hy(f), '  %s-ctr = tripleOf 𝓤 H A %s.signature (%s.spec 𝓤 H A mem run)' % (hy(f), hy(f), hy(f)), '']
+    o += ['  module _ (W : Given 𝓤 H A) (𝓣 : Tables 𝓤 H) %s where' % ' '.join('(known-%s : Triple 𝓤 (𝓣 .C #%s.name) %s-ctr)' % (hy(f), hy(f), hy(f)) for f in w.used),
+          '    acts : (l : Loc) (y : %s) (a : Values ps) → FitsAll ps a → Does 𝓤 H A (𝓣 .C) #%s.name one (l, tt) (y, tt) (pointers one (l, tt) ++ machine ps a) %s (λ w zs. And one (w ≡ made y a) zs (left y a, tt))' % (S, hy(act), res),
+          '    acts l y a fits = does 𝓤 H A W (𝓣 .C) (fmOf 𝓤 H (W .laws) 𝓣) #%s.name one ps %s (%s.clauses 𝓤 H A mem run) known-%s (l, tt) (y, tt) a fits (λ m. tt) (λ m. id⊢ 𝓤 _) (λ w zs. And one (w ≡ made y a) zs (left y a, tt)) (λ m w ws. id⊢ 𝓤 _)' % (hy(act), res, hy(act), hy(act)), '',
+          '    nones : Gives 𝓤 H A (𝓣 .C) #%s.name [] P%s (λ w. w ≡ %s)' % (hy(none), S, d), '    nones = %s [] P%s (%s.clauses 𝓤 H A mem run) known-%s tt tt tt (id⊢ 𝓤 _) (λ w. w ≡ %s) (λ w ws. id⊢ 𝓤 _)' % (k(none), S, hy(none), hy(none), d), '',
+          '    pasts : (a : Values ps) → Fits P%s %s → FitsAll ps a → Gives 𝓤 H A (𝓣 .C) #%s.name (P%s .val %s ∷ machine ps a) %s (λ w. w ≡ made %s a)' % (S, d, hy(past), S, d, res, d),
+          '    pasts a g fits = %s (P%s ∷ ps) %s (%s.clauses 𝓤 H A mem run) known-%s (%s, a) (g, fits) tt (id⊢ 𝓤 _) (λ w. w ≡ made %s a) (λ w ws. id⊢ 𝓤 _)' % (k(past), S, res, hy(past), hy(past), d, d), '',
+          '    met : Meets 𝓤 H A f.signature (WpFn 𝓤 H (𝓣 .C) (𝓣 .Λ) code.function) (f.spec 𝓤 H A mem run)'] + (['    unfolding ' + ' '.join(FN[n]['unfold'])] if 'unfold' in FN[n] else [])
+    o += ['    met = %s %s-type %s-laws T′.the-copy %s-plain tt %s %s #%s.name #%s.name #%s.name %s made left 𝓤 H A W 𝓣 acts nones pasts' % (law, S, S, S, ' '.join(plain(t) for t in ts), res, hy(act), hy(none), hy(past), d)]
+    w.res = res; w.good = ''; tail = w.tail(); return w, trimmed(o + [''] + tail[tail.index('pub %s-spec : {M : Type 1} → stated.statement M' % hy(n)):], crate)
 if __name__ == '__main__':
     load_fields(); bag(); crate = sys.argv[1]; fns, structs = functions(crate); met = set()
     walked = [n for n in fns if fns[n]['path'].split('::')[0] == crate and n in FN and FN[n].get('walk')]
     for n in walked:
-        if 'cites' in FN[n]: txt = record(n, fns, crate)
+        if FN[n].get('cites') == 'elem-meets': w, txt = element(n, fns, structs, crate); met |= w.types
+        elif 'cites' in FN[n]: txt = record(n, fns, crate)
         else:
             w = Walk(n, fns, structs); loop = 'loop' in FN[n]
             txt = w.looping() if loop else w.straight(); met |= w.types

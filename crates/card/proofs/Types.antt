@@ -34,6 +34,7 @@ use Rattle.engine.specs.declared.Settled.{Settled}
 use Rattle.rules.specs.declared.Slot.{Slot}
 use Rattle.card.specs.declared.Started.{Started}
 use Rattle.audit.specs.declared.Tracing.{Tracing}
+use Rattle.card.specs.declared.Walked.{Walked}
 use Rattle.engine.proofs.Ask as m-Ask
 use Rattle.engine.proofs.Ask.Laws as l-Ask
 use Rattle.audit.proofs.Audited as m-Audited
@@ -76,6 +77,8 @@ use Rattle.card.proofs.Started as m-Started
 use Rattle.card.proofs.Started.Laws as l-Started
 use Rattle.audit.proofs.Tracing as m-Tracing
 use Rattle.audit.proofs.Tracing.Laws as l-Tracing
+use Rattle.card.proofs.Walked as m-Walked
+use Rattle.card.proofs.Walked.Laws as l-Walked
 
 abbrev pub Ask-row : RattleType
 Ask-row = m-Ask.the-row
@@ -730,3 +733,35 @@ QTracing = sealed PTracing Tracing-val Tracing-is
 pub Tracing-typed : {M : Type 1} (𝓤 : URA M) (H : Heap 𝓤) (A : Atoms 𝓤) (W : Given 𝓤 H A) (x : Tracing) → Fits QTracing x → Holds (hasTy Tracing-ty (Tracing-val x)) × WT (Tracing-val x)
 unfolding Tracing-ty
 Tracing-typed 𝓤 H A W x g = QTracing .typed 𝓤 H A W x g
+
+abbrev pub Walked-row : RattleType
+Walked-row = m-Walked.the-row
+
+abbrev pub Walked-type : Declared
+Walked-type = m-Walked.the-type
+
+abbrev pub Walked-laws : LL.Laws Walked-type
+Walked-laws = l-Walked.the-laws
+
+abbrev pub Walked-plain : Plains (fields Walked-type)
+Walked-plain = l-Walked.the-plain
+
+abbrev pub PWalked : Plain
+PWalked = plain-struct Walked-type Walked-laws l-Walked.the-copy Walked-plain
+
+unfoldable pub Walked-val : Walked → Val
+Walked-val x = PWalked .val x
+
+pub Walked-is : (x : Walked) → Walked-val x ≡ PWalked .val x
+unfolding Walked-val
+Walked-is x = refl
+
+unfoldable pub Walked-ty : Ty
+Walked-ty = lone (Walked-row .mir)
+
+abbrev pub QWalked : Plain
+QWalked = sealed PWalked Walked-val Walked-is
+
+pub Walked-typed : {M : Type 1} (𝓤 : URA M) (H : Heap 𝓤) (A : Atoms 𝓤) (W : Given 𝓤 H A) (x : Walked) → Fits QWalked x → Holds (hasTy Walked-ty (Walked-val x)) × WT (Walked-val x)
+unfolding Walked-ty
+Walked-typed 𝓤 H A W x g = QWalked .typed 𝓤 H A W x g

@@ -28,6 +28,7 @@ use Rattle.engine.specs.Body.{Ran, acted, scanOf}
 use Rattle.card.specs.declared.Limits.{Limits}
 use Rattle.card.specs.declared.Filling.{Filling}
 use Rattle.card.specs.declared.Started.{Started}
+use Rattle.card.specs.declared.Walked.{Walked}
 
 -- ---- a call that may use so much of the lent buffers: with all of them it is the engine's `body`
 
@@ -42,22 +43,26 @@ bodyIn r at ask t done out =
     let w = within r done out in
     acted at t done out (planWith at ask t (lentOf ask (w .numbers) (w .bytes)))
 
--- the three walks of a plan, one after the other, and what is to be written back
+-- the three walks of a plan, one after the other
 pub record Acted : Type 0 where
-  pub settled : Settled
+  pub walked : Walked
   pub slots : List Slot
   pub numbers : List ℕ
   pub bytes : List ℕ
 
-abbrev pub actedOn : Pair → Ends → Plan → List Slot → List ℕ → List ℕ → Acted
-actedOn p e g slots done out =
+abbrev pub actedOn : Plan → List Slot → List ℕ → List ℕ → Acted
+actedOn g slots done out =
     let l = leave (record { work = g .leaving; slots = slots; done = done }) in
     let j = join (record { work = g .joining; slots = l .slots }) in
     let m = emit (j .slots) (record { work = g .emitting; out = out }) in
-    record { settled = settledOf p e g (l .work) (j .work) (m .work); slots = j .slots; numbers = l .done; bytes = m .out }
+    record { walked = record { leaving = l .work; joining = j .work; emitting = m .work }; slots = j .slots; numbers = l .done; bytes = m .out }
 
-abbrev pub Acts : Acted → Settled → List Slot → List ℕ → List ℕ → Type 0
-Acts x r slots done out = (r ≡ x .settled) × ((slots ≡ x .slots) × ((done ≡ x .numbers) × (out ≡ x .bytes)))
+abbrev pub Acts : Acted → Walked → List Slot → List ℕ → List ℕ → Type 0
+Acts x r slots done out = (r ≡ x .walked) × ((slots ≡ x .slots) × ((done ≡ x .numbers) × (out ≡ x .bytes)))
+
+-- what is to be written back after them
+abbrev pub finished : Pair → Ends → Plan → Walked → Settled
+finished p e g w = settledOf p e g (w .leaving) (w .joining) (w .emitting)
 
 abbrev pub Runs : Ran → Reply → List Pair → Ends → List Slot → List ℕ → List ℕ → Type 0
 Runs x r pairs ends slots done out =

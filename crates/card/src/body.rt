@@ -1,16 +1,19 @@
-// One body for every call: audit, the pair's record, scan, plan, the three walks, settle, write back. A refused call is a walk of no steps.
+// One body for every call: audit, the pair's record, scan, plan, the three walks, and the pair's record advances where it stands. A refused call is a walk of no steps.
 ghost use mathlib.Core.Path.{_≡_};
+ghost use lib.ListN.{set};
+ghost use Rattle.rules.specs.Slots.{pairAt};
 ghost use Rattle.card.specs.Lent.{lent};
-ghost use Rattle.card.specs.Inner.{planWith, actedOn, Acts, bodyIn, Runs};
+ghost use Rattle.card.specs.Inner.{planWith, actedOn, Acts, finished, bodyIn, Runs};
 use crate::Limits;
+use crate::Walked;
 use crate::acting::emit;
 use crate::acting::join;
 use crate::acting::leave;
 use crate::asking::room_within;
 use crate::auditing::audit_tables;
+use crate::places::no_pair;
 use crate::places::pair_at;
 use crate::places::place;
-use crate::places::put_pair_if;
 use crate::scanning::scan_queue;
 use engine::Ask;
 use engine::Plan;
@@ -22,6 +25,9 @@ use rules::Ends;
 use rules::Pair;
 use rules::Reply;
 use rules::Slot;
+use walks::Emitting;
+use walks::Joining;
+use walks::Leaving;
 
 // What the call is to do: nothing is written.
 pub(crate) fn decide(
@@ -43,22 +49,55 @@ pub(crate) fn decide(
     plan_of(v, pair, p, e, c, ask, room)
 }
 
-// The three walks, of which at most one has steps, and what is to be written back.
-pub(crate) fn act(
-    slots: &mut [Slot],
-    done: &mut [u32],
-    out: &mut [u8],
-    p: Pair,
-    e: Ends,
-    g: Plan,
-) -> Settled
-    ensures { λ r. ⌜ Acts (actedOn p e g (now (slots .entry)) (now (done .entry)) (now (out .entry)))
+pub(crate) fn walked_of(leaving: Leaving, joining: Joining, emitting: Emitting) -> Walked
+    ensures { λ r. ⌜ r ≡ record { leaving = leaving; joining = joining; emitting = emitting } ⌝ }
+{
+    Walked {
+        leaving,
+        joining,
+        emitting,
+    }
+}
+
+// The three walks, of which at most one has steps.
+pub(crate) fn act(slots: &mut [Slot], done: &mut [u32], out: &mut [u8], g: Plan) -> Walked
+    ensures { λ r. ⌜ Acts (actedOn g (now (slots .entry)) (now (done .entry)) (now (out .entry)))
         r (now (slots .exit)) (now (done .exit)) (now (out .exit)) ⌝ }
 {
     let l = leave(slots, done, g.leaving);
     let j = join(slots, g.joining);
     let m = emit(slots, out, g.emitting);
-    settle(p, e, g, l, j, m)
+    walked_of(l, j, m)
+}
+
+// What is to be written back, by value.
+pub(crate) fn finish(p: Pair, e: Ends, g: Plan, w: Walked) -> Settled
+    ensures { λ r. ⌜ r ≡ finished p e g w ⌝ }
+{
+    settle(p, e, g, w.leaving, w.joining, w.emitting)
+}
+
+// The pair's record advances in its own place.
+pub(crate) fn advance(pair: &mut Pair, e: Ends, g: Plan, w: Walked) -> Settled
+    ensures { λ r. ⌜ (r ≡ finished (now (pair .entry)) e g w) × (now (pair .exit) ≡ finished (now (pair .entry)) e g w .pair) ⌝ }
+{
+    let before = *pair;
+    let t = finish(before, e, g, w);
+    *pair = t.pair;
+    t
+}
+
+// Past the table's end there is no record, and nothing is written.
+pub(crate) fn advance_at(pairs: &mut [Pair], i: usize, e: Ends, g: Plan, w: Walked) -> Settled
+    ensures { λ r. ⌜ (r ≡ finished (pairAt (now (pairs .entry)) i) e g w)
+        × (now (pairs .exit) ≡ set (now (pairs .entry)) i (finished (pairAt (now (pairs .entry)) i) e g w .pair)) ⌝ }
+{
+    if i < pairs.len() {
+        advance(&mut pairs[i], e, g, w)
+    } else {
+        let none = no_pair();
+        finish(none, e, g, w)
+    }
 }
 
 pub fn call(
@@ -77,10 +116,9 @@ pub fn call(
     let e = *ends;
     let room = room_within(limits, ask, done.len(), out.len());
     let g = decide(pairs, slots, e, pair, ask, room);
+    let w = act(slots, done, out, g);
     let at = place(pair);
-    let p = pair_at(pairs, at);
-    let t = act(slots, done, out, p, e, g);
-    put_pair_if(pairs, at, t.pair);
+    let t = advance_at(pairs, at, e, g, w);
     *ends = t.ends;
     t.reply
 }

@@ -21,6 +21,9 @@ pub use calls::read_response;
 pub use calls::timer_step;
 use rules::Ends;
 use rules::Reply;
+use walks::Emitting;
+use walks::Joining;
+use walks::Leaving;
 
 // As much of the two lent buffers as a call may use.
 pub struct Limits {
@@ -39,4 +42,11 @@ pub struct Started {
     pub slots: Filling,
     pub ends: Ends,
     pub reply: Reply,
+}
+
+// What the three walks of a call come to.
+pub struct Walked {
+    pub leaving: Leaving,
+    pub joining: Joining,
+    pub emitting: Emitting,
 }

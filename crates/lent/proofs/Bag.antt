@@ -41,4 +41,5 @@ pub use Rattle.lent.proofs.Does.{And, After, does, gives, Does, Gives, 
 pub use Rattle.lent.proofs.Meets.{meets}
 pub use Rattle.lent.proofs.Frame.{Locs, envOf, cells, begins, finishes, var}
 pub use Rattle.lent.proofs.Open.{opens-ref, closes-ref}
+pub use Rattle.lent.proofs.Elem.{elem-loc, lends-elem, backs-elem}
 pub use Rattle.lent.proofs.Local.{plain-array, array-fits, all-fit, local-loc, lends-cell, backs-cell, lends-array, backs-array}

@@ -6,5 +6,6 @@ pub mod Frame
 pub mod Open
 pub mod Get
 pub mod Put
+pub mod Elem
 pub mod Local
 pub mod Bag

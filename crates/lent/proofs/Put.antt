@@ -38,7 +38,7 @@ use Rattle.lent.proofs.Frame.{envOf, begins, finishes, var}
 use Rattle.lent.proofs.Open.{opens-elem, closes-elem, place-fits}
 
 -- past the end `set` changes nothing
-set-past : {X : Type 0} (ys : List X) (i : ℕ) (s : X) → length ys ≤ i → ys ≡ set ys i s
+pub set-past : {X : Type 0} (ys : List X) (i : ℕ) (s : X) → length ys ≤ i → ys ≡ set ys i s
 set-past [] i s l = refl
 set-past (y ∷ ys) zero s l = absurd (not-suc-le-zero l)
 set-past (y ∷ ys) (suc i) s l = ap (λ (t : List _). y ∷ t) (set-past ys i s (le-of-suc-le-suc l))
