@@ -13,7 +13,7 @@ use Rattle.text.proofs.Parts.{drop-at}
 use Rattle.replay.specs.declared.lines.Place.{Place}
 use Rattle.replay.specs.Answer.{answerOf}
 use Rattle.replay.specs.Reading.{Reading, most, half, nextNumber, settled, behind, readByte, readAll, HasRead, reading, Sound}
-use Rattle.replay.proofs.Answering.{kept-answers}
+use Rattle.replay.proofs.Answers.{kept-answers}
 use Rattle.replay.proofs.Room.{settled-most}
 
 abbrev state : ℕ → List ℕ → Out → Reading
@@ -52,13 +52,11 @@ module _ {l o : List ℕ} {p : Place} {b : ℕ} where
       (s, ap (λ (x : List ℕ). state (p .number) x (out o (p .at))) (sym cut) ∙ rw (ne-eqb b 10 e))
 
 -- the answer of the bytes in front, put and settled
-pub answered : (l before : List ℕ) (p m q : Place) {front after : List ℕ} {k : ℕ} → front ≡ take (p .kept) l
-    → Puts before (p .at) (answerOf front (p .number)) after k → (m .kept ≡ 0) × (m .number ≡ nextNumber (p .number)) × (m .at ≡ k)
+pub answered : (l before : List ℕ) (p m q : Place) {after : List ℕ} {k : ℕ} → Puts before (p .at) (answerOf (take (p .kept) l) (p .number)) after k
+    → (m .kept ≡ 0) × (m .number ≡ nextNumber (p .number)) × (m .at ≡ k)
     → (q .kept ≡ m .kept) × (q .number ≡ m .number) × (q .at ≡ settled (m .at))
     → (q .kept ≡ 0) × (reading l after q ≡ readByte (reading l before p) 10)
-answered l before p m q {front} {after} {k} e h n s =
-    let put : out after k ≡ putAll (out before (p .at)) (answerOf (take (p .kept) l) (p .number))
-    = h ∙ ap (λ (x : List ℕ). putAll (out before (p .at)) (answerOf x (p .number))) e in
+answered l before p m q {after} {k} put n s =
     let kept : q .kept ≡ 0 = s .0 ∙ n .0 in
     let number : q .number ≡ nextNumber (p .number) = s .1 ∙ n .1 in
     let bytes = ap (λ (x : Out). x .bytes) put in

@@ -1,5 +1,3 @@
-pub mod Answering
+pub mod Answers
 pub mod Keeping
-pub mod Narrow
 pub mod Room
-pub mod Saying

@@ -1,109 +1,45 @@
 -- No answer is cut short: each is shorter than half the buffer, and half is always kept for the next. Assumes nothing.
 use mathlib.Core.Path.{_≡_}
-use mathlib.Core.Bool.{Bool, true, false, cond}
-use mathlib.Core.List.{List, [], _∷_, _++_}
-use Prim.Native.Nat.{ℕ, zero, suc, _+_, _*_, _/_, _%_, _≤_}
+use mathlib.Core.List.{List, _++_}
+use Prim.Native.Nat.{ℕ, _+_, _≤_}
 use native.Mathlib.Omega.{arith}
 use lib.Dec.{ltb}
-use lib.ListN.{length, getD, take, drop, length-append}
+use lib.ListN.{length, take, drop, length-append}
 use borrow.Author.Tests.{ltb-false}
 use Rattle.refusal.proofs.Cases.{by-test}
 use Rattle.text.specs.declared.Ask.{Ask}
 use Rattle.text.specs.declared.Ask.the-variants.{Nothing, Unread, Fresh, Open, Post, Emit, Ack, Response, Timer, Close, Room, Show, Free, Write, Read}
-use Rattle.text.specs.Text.{bytes}
-use Rattle.text.specs.Words.{words}
-use Rattle.text.specs.Hex.{octets, lower, hexText}
-use Rattle.text.specs.Line.{parsedOf}
-use Rattle.text.specs.Out.{out, putAll, decimalIn}
+use Rattle.text.specs.Out.{out, putAll}
 use Rattle.text.proofs.Putting.{put-fits}
-use Rattle.wire.specs.declared.Size.{Size}
-use Rattle.wire.specs.declared.Size.the-variants as size
-use Rattle.wire.specs.declared.Frame.{Frame}
-use Rattle.wire.specs.declared.Frame.the-variants as frame
-use Rattle.wire.specs.Header.{writeOf}
-use Rattle.wire.specs.Frame.{readOf}
-use Rattle.wire.proofs.Writing.{bytes-whole}
-use Rattle.replay.specs.Answer.{numeral, spaced, line, refusedText, unreadText, widest, within, headerOf, sizeText, writeText, fieldsOf, frameText, askText, answerOf}
+use Rattle.answers.specs.Plain.{textOf}
+use Rattle.answers.specs.Ordered.{orderOf}
+use Rattle.answers.proofs.Lengths.{unread-most, text-most}
+use Rattle.replay.specs.Answer.{callText, answerOf}
 use Rattle.replay.specs.Reading.{half, settled}
-
--- ---- how long each piece is
-
-decimal-most : (k n : ℕ) → length (decimalIn k n) ≤ k
-unfolding decimalIn
-decimal-most zero n = omega arith
-decimal-most (suc k) n = go (ltb n 10) (decimal-most k (n / 10))
-  where
-    go : (t : Bool) → length (decimalIn k (n / 10)) ≤ k → length (cond t ((48 + n) ∷ []) (decimalIn k (n / 10) ++ ((48 + n % 10) ∷ []))) ≤ suc k
-    go true h = omega arith
-    go false h = omega (arith, length-append (decimalIn k (n / 10)) ((48 + n % 10) ∷ []))
-
-spaced-most : (ns : List ℕ) → length (spaced ns) ≤ 21 * length ns
-unfolding spaced
-spaced-most [] = omega arith
-spaced-most (n ∷ ns) = omega (arith, spaced-most ns, decimal-most 20 n, length-append (numeral n) (spaced ns))
-
-line-most : (w ns : List ℕ) → length (line w ns) ≤ length w + 21 * length ns + 1
-line-most w ns = omega (arith, spaced-most ns, length-append w (spaced ns), length-append (w ++ spaced ns) (bytes "\n"))
-
-lower-most : (bs : List ℕ) → length (lower bs) ≤ 2 * length bs
-unfolding lower
-lower-most [] = omega arith
-lower-most (b ∷ bs) = omega (arith, lower-most bs)
-
-hex-most : (bs : List ℕ) → length (hexText bs) ≤ 2 * length bs + 1
-hex-most [] = omega arith
-hex-most (b ∷ bs) = omega (arith, lower-most (b ∷ bs))
 
 -- ---- how long an answer is
 
-size-most : (z : Size) (bs : List ℕ) → length bs ≡ 32 → length (sizeText z bs) ≤ 400
-size-most (size.Refused n) bs e = omega (arith, line-most (bytes "refused") (n ∷ []))
-size-most (size.Length n) bs e =
-    let head = bytes "header" ++ spaced (n ∷ []) in
-    omega (
-      arith,
-      hex-most bs,
-      spaced-most (n ∷ []),
-      length-append (bytes "header") (spaced (n ∷ [])),
-      length-append head (bytes " "),
-      length-append (head ++ bytes " ") (hexText bs),
-      length-append (head ++ bytes " " ++ hexText bs) (bytes "\n"),
-    )
+call-most : (x : Ask) (n : ℕ) → length (callText x n) ≤ 100
+call-most Nothing n = omega arith
+call-most Unread n = omega arith
+call-most Write n = omega arith
+call-most Read n = omega arith
+call-most Fresh n = unread-most n
+call-most Open n = unread-most n
+call-most Post n = unread-most n
+call-most Emit n = unread-most n
+call-most Ack n = unread-most n
+call-most Response n = unread-most n
+call-most Timer n = unread-most n
+call-most Close n = unread-most n
+call-most Room n = unread-most n
+call-most Show n = unread-most n
+call-most Free n = unread-most n
 
-write-most : (a : List ℕ) → length (writeText a) ≤ 400
-write-most a = go (within 0 a widest)
-  where
-    go : (t : Bool) → length (cond t (sizeText (writeOf (headerOf a) .size) (writeOf (headerOf a) .bytes)) (refusedText 3)) ≤ 400
-    go true = size-most (writeOf (headerOf a) .size) (writeOf (headerOf a) .bytes) (bytes-whole (headerOf a))
-    go false = omega (arith, line-most (bytes "refused") (3 ∷ []))
-
-frame-most : (f : Frame) → length (frameText f) ≤ 400
-frame-most (frame.Refused n) = omega (arith, line-most (bytes "refused") (n ∷ []))
-frame-most (frame.Read h l p) = omega (arith, line-most (bytes "frame") (fieldsOf h l p))
-
-unread-most : (n : ℕ) → length (unreadText n) ≤ 400
-unread-most n = omega (arith, line-most (bytes "unread") (n ∷ []))
-
-ask-most : (x : Ask) (a l : List ℕ) (n : ℕ) → length (askText x a l n) ≤ 400
-ask-most Nothing a l n = omega arith
-ask-most Write a l n = write-most a
-ask-most Read a l n = frame-most (readOf (octets (getD (words l) 1 [])))
-ask-most Unread a l n = unread-most n
-ask-most Fresh a l n = unread-most n
-ask-most Open a l n = unread-most n
-ask-most Post a l n = unread-most n
-ask-most Emit a l n = unread-most n
-ask-most Ack a l n = unread-most n
-ask-most Response a l n = unread-most n
-ask-most Timer a l n = unread-most n
-ask-most Close a l n = unread-most n
-ask-most Room a l n = unread-most n
-ask-most Show a l n = unread-most n
-ask-most Free a l n = unread-most n
-
-pub answer-most : (l : List ℕ) (n : ℕ) → length (answerOf l n) ≤ 400
+pub answer-most : (l : List ℕ) (n : ℕ) → length (answerOf l n) ≤ 500
 unfolding answerOf
-answer-most l n = ask-most (parsedOf l .ask) (parsedOf l .args) l n
+answer-most l n =
+    omega (arith, text-most l n, call-most (orderOf l .what) n, length-append (textOf l n) (callText (orderOf l .what) n))
 
 -- ---- and how much room is left for it
 

@@ -1,120 +1,30 @@
--- What a line answers, from "Calls" of the trace protocol. Assumes nothing.
-use Prim.Native.Nat.{ℕ, suc, _-_, _^_}
-use Prim.Native.String.{String}
-use mathlib.Core.Bool.{Bool, true, _&&_}
-use mathlib.Core.List.{List, [], _∷_, _++_}
-use lib.Dec.{leb}
-use lib.ListN.{getD}
-use Rattle.refusal.specs.Choice.{if_then_else_}
+-- What a line answers. Assumes nothing.
+use Prim.Native.Nat.{ℕ}
+use mathlib.Core.List.{List, [], _++_}
 use Rattle.text.specs.declared.Ask.{Ask}
 use Rattle.text.specs.declared.Ask.the-variants.{Nothing, Unread, Fresh, Open, Post, Emit, Ack, Response, Timer, Close, Room, Show, Free, Write, Read}
-use Rattle.text.specs.Text.{bytes}
-use Rattle.text.specs.Words.{words}
-use Rattle.text.specs.Hex.{octets, hexText}
-use Rattle.text.specs.Line.{parsedOf}
-use Rattle.text.specs.Out.{decimal}
-use Rattle.wire.specs.declared.Header.{Header}
-use Rattle.wire.specs.declared.Written.{Written}
-use Rattle.wire.specs.declared.Size.{Size}
-use Rattle.wire.specs.declared.Size.the-variants as size
-use Rattle.wire.specs.declared.Frame.{Frame}
-use Rattle.wire.specs.declared.Frame.the-variants as frame
-use Rattle.wire.specs.Header.{writeOf}
-use Rattle.wire.specs.Frame.{readOf}
-
--- ---- lines of words and numbers
-
--- a number with a space before it
-abbrev pub numeral : ℕ → List ℕ
-numeral n = bytes " " ++ decimal n
-
-unfoldable pub spaced : List ℕ → List ℕ
-spaced [] = []
-spaced (n ∷ ns) = numeral n ++ spaced ns
-
-abbrev pub line : List ℕ → List ℕ → List ℕ
-line w ns = w ++ spaced ns ++ bytes "\n"
-
-abbrev pub said : String → List ℕ → List ℕ
-said s ns = line (bytes s) ns
-
--- "Any refusal is `refused N`, and only that."
-abbrev pub refusedText : ℕ → List ℕ
-refusedText n = said "refused" (n ∷ [])
-
--- "A line that is not read changes nothing and writes `unread L`"
-abbrev pub unreadText : ℕ → List ℕ
-unreadText n = said "unread" (n ∷ [])
-
--- ---- "`write OPCODE PAD PKEY FAR PSN ADDRESS KEY LENGTH VALUE SYNDROME MSN`": "`header LEN HEX`, 32 bytes"
-
--- "A number that is too wide for its argument is an argument out of its range: refusal 3 .. 32 bits for .. key, immediate, .. and `write`'s
--- LENGTH; 16 for PKEY; 8 for SYNDROME and `write`'s OPCODE; 64 for ADDRESS": the others have an 8 or 32 bit field in the header
-abbrev pub widest : List ℕ
-widest =
-    (2 ^ 8 - 1) ∷ (2 ^ 8 - 1) ∷ (2 ^ 16 - 1) ∷ (2 ^ 32 - 1) ∷ (2 ^ 32 - 1) ∷ (2 ^ 64 - 1) ∷ (2 ^ 32 - 1) ∷ (2 ^ 32 - 1) ∷ (2 ^ 32 - 1) ∷ (2 ^ 8 - 1) ∷ (2 ^ 32 - 1) ∷ []
-
--- the numbers from the k-th on, each at most its largest
-unfoldable pub within : ℕ → List ℕ → List ℕ → Bool
-within k a [] = true
-within k a (m ∷ ms) = leb (getD a k 0) m && within (suc k) a ms
-
-abbrev pub headerOf : List ℕ → Header
-headerOf a =
-    record {
-      opcode = getD a 0 0;
-      pad = getD a 1 0;
-      pkey = getD a 2 0;
-      far = getD a 3 0;
-      psn = getD a 4 0;
-      address = getD a 5 0;
-      key = getD a 6 0;
-      length = getD a 7 0;
-      value = getD a 8 0;
-      syndrome = getD a 9 0;
-      msn = getD a 10 0;
-    }
-
-abbrev pub sizeText : Size → List ℕ → List ℕ
-sizeText (size.Refused n) bs = refusedText n
-sizeText (size.Length n) bs = bytes "header" ++ spaced (n ∷ []) ++ bytes " " ++ hexText bs ++ bytes "\n"
-
-abbrev pub writtenText : Written → List ℕ
-writtenText w = sizeText (w .size) (w .bytes)
-
-abbrev pub writeText : List ℕ → List ℕ
-writeText a = if within 0 a widest then writtenText (writeOf (headerOf a)) else refusedText 3
-
--- ---- "`read HEX`": "`frame OPCODE PAD PKEY FAR PSN ADDRESS KEY LENGTH VALUE SYNDROME MSN HEADERLEN PAYLOADLEN`"
-
-abbrev pub fieldsOf : Header → ℕ → ℕ → List ℕ
-fieldsOf h l p =
-    h .opcode ∷ h .pad ∷ h .pkey ∷ h .far ∷ h .psn ∷ h .address ∷ h .key ∷ h .length ∷ h .value ∷ h .syndrome ∷ h .msn ∷ l ∷ p ∷ []
-
-abbrev pub frameText : Frame → List ℕ
-frameText (frame.Refused n) = refusedText n
-frameText (frame.Read h l p) = said "frame" (fieldsOf h l p)
-
--- ---- the line
+use Rattle.answers.specs.Said.{unreadText}
+use Rattle.answers.specs.Plain.{textOf}
+use Rattle.answers.specs.Ordered.{orderOf}
 
 -- the calls on the tables are not carried out yet
-abbrev pub askText : Ask → List ℕ → List ℕ → ℕ → List ℕ
-askText Nothing a l n = []
-askText Write a l n = writeText a
-askText Read a l n = frameText (readOf (octets (getD (words l) 1 [])))
-askText Unread a l n = unreadText n
-askText Fresh a l n = unreadText n
-askText Open a l n = unreadText n
-askText Post a l n = unreadText n
-askText Emit a l n = unreadText n
-askText Ack a l n = unreadText n
-askText Response a l n = unreadText n
-askText Timer a l n = unreadText n
-askText Close a l n = unreadText n
-askText Room a l n = unreadText n
-askText Show a l n = unreadText n
-askText Free a l n = unreadText n
+abbrev pub callText : Ask → ℕ → List ℕ
+callText Nothing n = []
+callText Unread n = []
+callText Write n = []
+callText Read n = []
+callText Fresh n = unreadText n
+callText Open n = unreadText n
+callText Post n = unreadText n
+callText Emit n = unreadText n
+callText Ack n = unreadText n
+callText Response n = unreadText n
+callText Timer n = unreadText n
+callText Close n = unreadText n
+callText Room n = unreadText n
+callText Show n = unreadText n
+callText Free n = unreadText n
 
 -- the answer to a line, the n-th of the input
 unfoldable pub answerOf : List ℕ → ℕ → List ℕ
-answerOf l n = askText (parsedOf l .ask) (parsedOf l .args) l n
+answerOf l n = textOf l n ++ callText (orderOf l .what) n

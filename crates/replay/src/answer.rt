@@ -1,125 +1,29 @@
 // What a line answers, put into a buffer from a place on.
 ghost use mathlib.Core.Path.{_≡_};
-ghost use mathlib.Core.Bool.{true};
-ghost use Prim.Native.Nat.{_≤_};
-ghost use mathlib.Core.List.{[]};
-ghost use lib.ListN.{length, getD};
-ghost use Rattle.text.specs.Words.{words};
-ghost use Rattle.text.specs.Hex.{isHex, octets};
-ghost use Rattle.wire.specs.Frame.{readOf};
+ghost use lib.ListN.{take};
 ghost use Rattle.text.specs.Out.{Puts};
-ghost use Rattle.replay.specs.Answer.{numeral, spaced, refusedText, sizeText, writeText, line, frameText, answerOf};
-use crate::fields::are_narrow;
-use crate::fields::fields_of;
-use crate::fields::header_of;
-use refusal::Refusal;
+ghost use Rattle.replay.specs.Answer.{callText, answerOf};
+use answers::order_of;
+use answers::put_text;
+use answers::put_unread;
 use text::Ask;
-use text::Filled;
-use text::argument;
-use text::decode;
-use text::parse;
-use text::put;
-use text::put_decimal;
-use text::put_hex;
-use wire::Frame;
-use wire::Size;
 
-fn put_number(out: &mut [u8], at: usize, number: u64) -> usize
-    ensures { λ r. ⌜ Puts (now (out .entry)) at (numeral number) (now (out .exit)) r ⌝ }
+// The calls on the tables come later.
+fn put_call(out: &mut [u8], at: usize, what: Ask, number: u64) -> usize
+    ensures { λ r. ⌜ Puts (now (out .entry)) at (callText what number) (now (out .exit)) r ⌝ }
 {
-    let next = put(out, at, b" ");
-    put_decimal(out, next, number)
-}
-
-// Each number with a space before it.
-fn put_numbers(out: &mut [u8], at: usize, numbers: &[u64]) -> usize
-    ensures { λ r. ⌜ Puts (now (out .entry)) at (spaced (now (numbers .entry))) (now (out .exit)) r ⌝ }
-{
-    let mut to = at;
-    let mut i = 0;
-    while i < numbers.len() {
-        to = put_number(out, to, numbers[i]);
-        i += 1;
-    }
-    to
-}
-
-// A word and its numbers.
-fn put_line(out: &mut [u8], at: usize, word: &[u8], numbers: &[u64]) -> usize
-    ensures { λ r. ⌜ Puts (now (out .entry)) at (line (now (word .entry)) (now (numbers .entry))) (now (out .exit)) r ⌝ }
-{
-    let a = put(out, at, word);
-    let b = put_numbers(out, a, numbers);
-    put(out, b, b"\n")
-}
-
-fn put_refused(out: &mut [u8], at: usize, number: u8) -> usize
-    ensures { λ r. ⌜ Puts (now (out .entry)) at (refusedText number) (now (out .exit)) r ⌝ }
-{
-    put_line(out, at, b"refused", &[number as u64])
-}
-
-fn put_header(out: &mut [u8], at: usize, length: u32, bytes: &[u8]) -> usize
-    ensures { λ r. ⌜ Puts (now (out .entry)) at (sizeText (Size.Length length) (now (bytes .entry))) (now (out .exit)) r ⌝ }
-{
-    let a = put(out, at, b"header");
-    let b = put_numbers(out, a, &[length as u64]);
-    let c = put(out, b, b" ");
-    let d = put_hex(out, c, bytes);
-    put(out, d, b"\n")
-}
-
-// `write`: a number too wide for its argument is out of its range.
-fn answer_write(args: &[u64; 11], out: &mut [u8], at: usize) -> usize
-    ensures { λ r. ⌜ Puts (now (out .entry)) at (writeText (now (args .entry))) (now (out .exit)) r ⌝ }
-{
-    if !are_narrow(args) {
-        return put_refused(out, at, Refusal::RANGE);
-    }
-    let written = wire::write(header_of(args));
-    let size = written.size;
-    match size {
-        Size::Refused(n) => put_refused(out, at, n),
-        Size::Length(n) => put_header(out, at, n, &written.bytes),
+    match what {
+        Ask::Nothing | Ask::Unread | Ask::Write | Ask::Read => at,
+        _ => put_unread(out, number, at),
     }
 }
 
-fn put_read(out: &mut [u8], at: usize, frame: &[u8]) -> usize
-    ensures { λ r. ⌜ Puts (now (out .entry)) at (frameText (readOf (now (frame .entry)))) (now (out .exit)) r ⌝ }
+pub(crate) fn answer(line: &mut [u8], out: &mut [u8], kept: usize, number: u64, at: usize) -> usize
+    ensures { λ r. ⌜ Puts (now (out .entry)) at (answerOf (take kept (now (line .entry))) number) (now (out .exit)) r ⌝ }
+    ensures { λ _. ⌜ now (line .exit) ≡ now (line .entry) ⌝ }
 {
-    match wire::read(frame) {
-        Frame::Refused(n) => put_refused(out, at, n),
-        Frame::Read {
-            header,
-            length,
-            payload,
-        } => put_line(out, at, b"frame", &fields_of(header, length, payload)),
-    }
-}
-
-// `read`: a line that is read has no HEX longer than the buffer.
-fn answer_read(line: &[u8], out: &mut [u8], at: usize) -> usize
-    requires { ⌜ isHex (getD (words (now line)) 1 []) ≡ true ⌝ }
-    requires { ⌜ length (octets (getD (words (now line)) 1 [])) ≤ 10000 ⌝ }
-    ensures { λ r. ⌜ Puts (now (out .entry)) at (frameText (readOf (octets (getD (words (now (line .entry))) 1 [])))) (now (out .exit)) r ⌝ }
-{
-    let mut frame = [0u8; 10000];
-    let Filled::Bytes(n) = decode(argument(line), &mut frame) else {
-        return at;
-    };
-    put_read(out, at, &frame[..n])
-}
-
-pub(crate) fn answer(line: &[u8], number: u64, out: &mut [u8], at: usize) -> usize
-    ensures { λ r. ⌜ Puts (now (out .entry)) at (answerOf (now (line .entry)) number) (now (out .exit)) r ⌝ }
-{
-    let parsed = parse(line);
-    let ask = parsed.ask;
-    match ask {
-        Ask::Nothing => at,
-        Ask::Write => answer_write(&parsed.args, out, at),
-        Ask::Read => answer_read(line, out, at),
-        // The calls on the tables come later.
-        _ => put_line(out, at, b"unread", &[number]),
-    }
+    let order = order_of(line, kept);
+    let what = order.what;
+    let to = put_text(line, out, kept, number, at);
+    put_call(out, to, what, number)
 }

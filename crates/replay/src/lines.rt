@@ -2,9 +2,9 @@
 // not read, however many follow.
 ghost use mathlib.Core.Path.{_≡_};
 ghost use mathlib.Core.Bool.{true};
-ghost use lib.ListN.{take};
 ghost use Rattle.replay.specs.Reading.{nextNumber, readByte, readAll, reading, Sound, settled};
 use crate::answer::answer;
+use answers::front;
 use libc::STDOUT_FILENO;
 
 // What is collected before it is written out: an answer always has as much room behind it.
@@ -60,13 +60,6 @@ impl Place {
     }
 }
 
-// The first `n` elements, or all where there are fewer.
-fn front(s: &[u8], n: usize) -> &[u8]
-    ensures { λ r. ⌜ now r ≡ take n (now (s .entry)) ⌝ }
-{
-    if n < s.len() { &s[..n] } else { s }
-}
-
 // Writes out what is collected, where that is much.
 fn settle(out: &[u8], place: Place) -> Place
     ensures { λ r. ⌜ (r .kept ≡ place .kept) × (r .number ≡ place .number) × (r .at ≡ settled (place .at)) ⌝ }
@@ -80,11 +73,12 @@ fn settle(out: &[u8], place: Place) -> Place
 }
 
 // The line is at its end.
-fn end_line(line: &[u8], out: &mut [u8], place: Place) -> Place
+fn end_line(line: &mut [u8], out: &mut [u8], place: Place) -> Place
     ensures { λ r. ⌜ r .kept ≡ 0 ⌝ }
+    ensures { λ _. ⌜ now (line .exit) ≡ now (line .entry) ⌝ }
     ensures { λ r. ⌜ reading (now (line .entry)) (now (out .exit)) r ≡ readByte (reading (now (line .entry)) (now (out .entry)) place) 10 ⌝ }
 {
-    let at = answer(front(line, place.kept), place.number, out, place.at);
+    let at = answer(line, out, place.kept, place.number, place.at);
     settle(&out[..], place.next_line(at))
 }
 
@@ -94,7 +88,7 @@ fn take(b: u8, line: &mut [u8], out: &mut [u8], place: Place) -> Place
     ensures { λ r. ⌜ reading (now (line .exit)) (now (out .exit)) r ≡ readByte (reading (now (line .entry)) (now (out .entry)) place) b ⌝ }
 {
     if b == b'\n' {
-        return end_line(&line[..], out, place);
+        return end_line(line, out, place);
     }
     let mut next = place;
     let kept = place.kept;
@@ -121,10 +115,10 @@ pub(crate) fn feed(input: &[u8], line: &mut [u8], out: &mut [u8], place: Place) 
 }
 
 // The last line has perhaps no newline; an empty one asks for nothing.
-pub(crate) fn finish(line: &[u8], out: &mut [u8], place: Place) {
+pub(crate) fn finish(line: &mut [u8], out: &mut [u8], place: Place) {
     if !place.well {
         return;
     }
-    let at = answer(front(line, place.kept), place.number, out, place.at);
+    let at = answer(line, out, place.kept, place.number, place.at);
     io::write_all(STDOUT_FILENO, front(&out[..], at));
 }

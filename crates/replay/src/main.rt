@@ -1,6 +1,5 @@
 // Reads a trace on standard input, a call a line, and writes what each line answers.
 mod answer;
-mod fields;
 mod lines;
 
 ghost use mathlib.Core.Path.{_≡_};

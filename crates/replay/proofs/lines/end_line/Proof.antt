@@ -5,9 +5,6 @@ use borrow.Author.Needs.{needs}
 use Rattle.replay.proofs.lines.end_line.Statement.{statement}
 use Rattle.replay.proofs.lines.end_line.Tie as tie
 
-front-requires : tie.Need-front-requires
-front-requires c κs = search needs
-
 answer-requires : tie.Need-answer-requires
 answer-requires c κs = search needs
 
@@ -20,21 +17,17 @@ settle-requires c κs = search needs
 same-length : tie.Need-same-length
 same-length c = search needs
 
+same-length-2 : tie.Need-same-length-2
+same-length-2 c = search needs
+
 returns : tie.Need-returns
 returns c =
-    let at-answer = c .before .before .before .before .before in
-    let at-front = at-answer .before .before in
-    let start = at-front .before .before .before in
-    answered (now (start .args .line)) (now (start .args .out)) (start .args .place) (c .before .next-line .result) (c .settle .result) (at-front .front .ensures) (at-answer .answer .ensures)
-    (c .before .next-line .ensures) (c .settle .ensures)
+    let start = c .before .before .before .before .before .before .before .before .before .before .before .before in
+    let put = c .before .before .before .before .before .before .before .answer .ensures in
+    let read = answered (now (start .args .line)) (now (start .args .out)) (start .args .place) (c .before .next-line .result) (c .settle .result) (put .0) (c .before .next-line .ensures) (c .settle .ensures) in
+    (read .0, (put .1, read .1))
 
 pub end-line-spec : {M : Type 1} → statement M
 end-line-spec =
     tie.close
-    (tie.spec
-    front-requires
-    answer-requires
-    next-line-requires
-    settle-requires
-    same-length
-    returns)
+    (tie.spec answer-requires next-line-requires settle-requires same-length same-length-2 returns)

@@ -17,11 +17,9 @@ same-length-2 c = search needs
 
 returns : tie.Need-returns
 returns c =
-    let at-end-line = c .before .before in
-    let at-if1 = at-end-line .before .before .before in
-    let start = at-if1 .before .before .before in
-    let ended = at-end-line .end-line .ensures in
-    line-ended (now (start .args .out)) (start .pre) (at-if1 .if1 .taken) (ended .0) (ended .1)
+    let start = c .before .before .before .before .before .before .before .before .before .before in
+    let ended = c .before .before .before .before .end-line .ensures in
+    rw (ended .1 .0) (line-ended (now (start .args .out)) (start .pre) (c .before .before .before .before .before .before .before .if1 .taken) (ended .0) (ended .1 .1))
 
 slice-write-line : tie.Need-slice-write-line
 slice-write-line c = search needs
