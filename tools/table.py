@@ -107,3 +107,43 @@ def exported(n, of, **change):
 for n, of in (('fresh', 'fresh_start'), ('open', 'open_pair'), ('emit', 'emit_packets'), ('acknowledge', 'acknowledge'), ('response', 'read_response'), ('timer', 'timer_step'), ('close', 'close_pair')): exported(n, of)
 exported('post', 'post_message', **{'{4}': '(Flat.postOf {4})'})
 walk('kamusseori_audit', 'Flat.numberIf (%s)' % FN['audit']['f'], FN['audit']['z'])
+
+# ---- the program
+USES.update({'Kept': 'Rattle.replay.specs.Kept', 'Answer': 'Rattle.replay.specs.Answer', 'Serving': 'Rattle.replay.specs.Serving', 'Less': 'Rattle.replay.proofs.Less', 'Ordered': 'Rattle.answers.specs.Ordered', 'Plain': 'Rattle.answers.specs.Plain', 'Out': 'Rattle.text.specs.Out'})
+value(is_a='Answer.isA {0} {1}', pair_of='{0} .pair', pair_place='{0} .pair', ask_of='{0} .ask', no_reply='Serving.noReply', limits_of='Serving.limitsOf {0}', numbers_for='Serving.numbersFor {0} {1}', bytes_for='Serving.bytesFor {0} {1}',
+      count_for='Serving.countFor {0}', count_place='{0} .left - 1', count_step='Serving.countStep {0} {1}', list_for='Serving.listFor {0} {1} {2} {3} {4}', slot_place='{0} .at', is_end='Kept.isEnd {0}', next_line='Kept.nextLine {0} {1} {2} {3}',
+      begin='Kept.start', no_ends='record { first = 0; last = 0 }')
+FN['order_of'] = dict(f='Ordered.orderOf (take {1} {0})', z=['{0}'])
+TEXT = 'Out.putAll (Out.out {1} {4}) (Plain.textOf (take {2} {0}) {3})'
+FN['put_text'] = dict(f=TEXT + ' .at', z=['{0}', TEXT + ' .bytes'])
+HEAD = 'Out.putAll (Out.out {2} {6}) (Answer.headOf {0} {1} {3} {4} {5})'
+FN['put_head'] = dict(f=HEAD + ' .at', z=['{0}', '{1}', HEAD + ' .bytes'])
+TAIL = 'Out.putAll (Out.out {0} {2}) (Answer.tailOf {1})'
+FN['put_tail'] = dict(f=TAIL + ' .at', z=[TAIL + ' .bytes'])
+FN['list_step'] = dict(f='Serving.listStep {0} {1} {2} .work', z=['Serving.listStep {0} {1} {2} .text'])
+FN['byte_at'] = dict(f='getD {0} ({1} .from) 0', z=['{0}'])
+FN['keep'] = dict(f='Kept.keptBy (length {0}) {2}', z=['set {0} ({2} .kept) {1}'])
+walk('count_turn', 'Serving.countTurn {0} {1}', ['{0}'])
+walk('count', 'Serving.counted {0} {1}', ['{0}'], loop=dict(step='Serving.countTurn {0}', less='Less.count-less {0}'))
+LISTED = 'record { work = {2}; text = {1} }'
+walk('list_turn', *(lambda a: (a[0], a[1:]))(acts('Serving.listTurn {0}', LISTED, 'work', '{0}', 'text')))
+walk('list', *(lambda a: (a[0], a[1:]))(acts('Serving.listed {0}', LISTED, 'work', '{0}', 'text')), loop=dict(state='Serving.Listed', pack=LISTED, work='{y} .work', refs=['{0}', '{y} .text'], step='Serving.listTurn {0}', less='Less.list-less {0}'))
+NEW = 'Serving.restarted {3} ' + T
+walk('restart', NEW + ' .said .reply', [NEW + ' .next .' + x for x in ('pairs', 'ends', 'slots')], branch=dict(type='Calls.Step Slots.Tables', test='Answer.isA 2 {3}', yes=START, no='record { said = record { reply = Serving.noReply; buffer = [] }; next = %s }' % T, parts=[' .said .reply', ' .next .pairs', ' .next .ends', ' .next .slots']))
+RUN = 'Serving.carriedOut {5} {6} %s {3} {4}' % T
+AGAIN = 'Serving.restarted {5} ' + T
+PARTS = [' .tables .pairs', ' .tables .ends', ' .tables .slots', ' .numbers', ' .bytes']
+walk('carry', RUN + ' .reply', [RUN + x for x in PARTS], branch=dict(type='Body.Ran', test='Answer.isA 1 {5}', yes='Inner.bodyIn (Serving.limitsOf {6}) ({5} .pair) ({5} .ask) %s {3} {4}' % T, no='record { reply = %s .said .reply; tables = %s .next; numbers = {3}; bytes = {4} }' % (AGAIN, AGAIN), parts=[' .reply'] + PARTS))
+DESK = '(record { tables = %s; numbers = {3}; bytes = {4}; line = {%d}; text = {%d}; place = {%d} })'
+HELD = DESK % (T, 5, 6, 7)
+walk('answer', 'Serving.answered %s .place' % HELD, ['Serving.answered %s%s' % (HELD, x) for x in PARTS + [' .line', ' .text']], unfold=['Serving.answered'])
+FEED = DESK % (T, 6, 7, 8)
+def feeds(f): return ['%s %s .place' % (f, FEED)] + ['%s %s%s' % (f, FEED, x) for x in PARTS] + ['{5}'] + ['%s %s%s' % (f, FEED, x) for x in (' .line', ' .text')]
+BYTE = 'getD {5} ({8} .from) 0'
+walk('feed_turn', *(lambda a: (a[0], a[1:]))(feeds('Serving.fed {5}')), branch=dict(type='Serving.Desk', test='Kept.isEnd (%s)' % BYTE, yes='Serving.answered ' + FEED, no='Serving.keptIn (%s) %s' % (BYTE, FEED), parts=[' .place'] + PARTS + [None, ' .line', ' .text']))
+walk('feed', *(lambda a: (a[0], a[1:]))(feeds('Serving.fedAll {5}')), loop=dict(state='Serving.Desk', pack=FEED, work='{y} .place', refs=['{y}' + x for x in PARTS] + ['{5}', '{y} .line', '{y} .text'], step='Serving.fed {5}', less='Less.fed-less {5}'))
+# of what is read and written nothing is said, but that it ends
+FN['fetch'] = dict(some='NOTHING'); FN['flush'] = dict(some='0 < {2} .turns → {w} .turns < {2} .turns')
+FN['turn'] = dict(some='0 < {8} .turns → {w} .turns < {8} .turns', walk=True)
+FN['serve'] = dict(some='NOTHING', walk=True, loop=True)
+FN['keep_tables'] = dict(some='NOTHING', walk=True)

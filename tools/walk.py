@@ -1,7 +1,7 @@
 #!/usr/bin/env python3
 # Writes the proof of a straight-line function, or of a loop over a turn, from its MIR (`rt mir CRATE`) and tools/table.py: proofs/PATH/Proof.antt.
 # usage: walk.py CRATE [NAME..]    all of the crate's functions in the table where none is named. What it writes is checked as any other proof: nothing here is trusted.
-import sys, os, re, subprocess
+import sys, os, re, copy, subprocess
 HERE = os.path.dirname(os.path.abspath(__file__)); sys.path.insert(0, HERE)
 from table import *
 ROOT = os.path.dirname(HERE)
@@ -103,6 +103,7 @@ class Walk:
     # the structs of which a field is read, or that lie behind a reference that is read or written whole
     def opens(self, b):
         if not isinstance(b, list): return
+        if b and b[0] == 'addrOf' and b[1][2] == 'lnil' and self.tys[int(b[1][1])][0] == 'struct': OPENED.add(self.tys[int(b[1][1])][1])
         if b and b[0] == 'place':
             t = self.tys[int(b[1])]
             for q in lst(b[2]):
@@ -148,7 +149,7 @@ class Walk:
     def lend(self, i):
         t = self.tys[i]; self.n += 1; nu = '%d' % self.n; b = '(bs %s.0)' % ('.1 ' * i); j = len(self.lx); x = self.vals[i]
         if t[0] == 'array':
-            self.open('lends-array ! tt %s tt %d %d %s %s refl %s %s (lit< tt, lit< tt) (λ ν%s δ%s.' % (plain(t[1]), t[2], self.pos(i), b, par(x), par(self.fit[i]), 'refl' if not x.startswith('(replicate') else '(length-replicate {A = %s} %d %s)' % (den(t[1]), t[2], x.rstrip(')').split(' ', 2)[2] if '(' not in x[1:] else '_'), nu, nu))
+            self.open('lends-array ! tt %s tt %d %d %s %s refl %s %s (lit< tt, lit< tt) (λ ν%s δ%s.' % (plain(t[1]), t[2], self.pos(i), b, par(x), par(self.fit[i]), ('(%s .1 .0 .1)' % par(self.fit[i]) if re.fullmatch(r'v\d+', x) else 'refl') if not x.startswith('(replicate') else '(length-replicate {A = %s} %d %s)' % (den(t[1]), t[2], x.rstrip(')').split(' ', 2)[2] if '(' not in x[1:] else '_'), nu, nu))
             self.lx.append('(local-loc %s %d ν%s δ%s)' % (b, t[2], nu, nu)); self.reft.append(('slice', t[1]))
         else:
             self.open('lends-cell ! tt %s tt %d %s %s refl %s (λ ν%s δ%s.' % (plain(t), self.pos(i), b, par(x), par(self.fit[i]), nu, nu))
@@ -271,7 +272,7 @@ class Walk:
     def head(self, doc):
         n = self.name; o = ['-- `%s::%s` meets its contract: %s Written by tools/walk.py from its MIR. Assumes nothing.' % (self.crate, n, doc)]
         me = module(self.fn['path'], self.crate); here = 'Rattle.%s.proofs.Types' % self.crate
-        o += ['use Rattle.lent.proofs.Bag.{%s}' % ', '.join(BAG), 'use denote.Struct.Laws as LL', 'use Rattle.refusal.specs.Loop.{loop}', 'use Rattle.refusal.proofs.Loop.{loop-done, loop-more}']
+        o += ['use Rattle.lent.proofs.Bag.{%s}' % ', '.join(BAG), 'use denote.Struct.Laws as LL', 'use Rattle.refusal.specs.Loop.{loop}', 'use Rattle.refusal.proofs.Loop.{loop-done, loop-more}', 'use Rattle.refusal.specs.Choice.{if_then_else_}', 'use types.Run.{branches}', 'use lib.ListN.{take}', 'use %s.{chosen, passed-over}' % module('replay::Chosen', self.crate)]
         if self.types: o += ['use %s.{%s}' % (here, ', '.join(x for t in sorted(self.types) for x in ((t + '-row', 'P' + t, 'Q' + t, t + '-ty', t + '-typed') if t in ENUMS else (t + '-row', t + '-type', t + '-laws', t + '-plain', 'P' + t, 'Q' + t, t + '-ty', t + '-typed'))))]
         for t in sorted(self.types | self.said): o += ['use %s.{%s}' % (declared(t, self.crate), t)]
         o += ['@@USES@@']
@@ -291,11 +292,11 @@ class Walk:
         if m[0] == 'tyNamed': n = m[1][1].split('::')[-1]; return '(lone (%s-row .mir))' % n if n in OPENED else n + '-ty'
         if m[0] == 'tyRef': l = '(named %s)' % m[1][1] if m[1] != 'erased' else 'erased'; t = ty(m[3]); return '(tyRef %s mut %s)' % (l, self.pointed(t))
         if m[0] == 'tyStruct' and m[1] == '&[]': return '(sliceTy %s)' % self.spelled(lst2(m[2])[0])
-        if m[0] == 'tyArray': return '(lone (Array (UInt w%s) %s .mir))' % (m[1][1], m[2][1])
+        if m[0] == 'tyArray': return '(lone (Array (%s) %s .mir))' % (row(ty(m[1])), m[2][1])
         raise Exception('type %r' % (m,))
     def pointed(self, t):
         if t[0] == 'int': return '(tyInt w%d)' % t[1]
-        if t[0] == 'array': return '(lone (Array (UInt w%d) %d .mir))' % (t[1][1], t[2])
+        if t[0] == 'array': return '(pointee (Array (%s) %d .written))' % (row(t[1]), t[2])
         return '(pointee (%s-row .written))' % t[1]
     def locals_text(self):
         ls = ['local %s %s' % (self.spelled(t), h) for t, h in zip(self.fn['locals'], self.fn['homes'])]
@@ -342,15 +343,37 @@ class Walk:
         for f in self.used: o.append('    (cited 𝓤 H (%s-ctr 𝓤 H (𝓖 .A) (𝓜 .mem) (𝓡 .run)) 𝓜 𝓡 code.env #%s.name #%s.routine code.calls-%s (%s-thm.met 𝓤 H 𝓜 𝓖 𝓡))' % (hy(f), hy(f), hy(f), called(self.fns[f]['path'], self.crate), hy(f)))
         o[-1] += ')'
         return o
-    def straight(self):
-        b = self.fn['body']; stmts = []; self.named = 'some' not in FN[self.name]
-        while b != 'return': assert b[0] == 'seq', b; stmts.append(b[1]); b = b[2]
-        for s in stmts: self.step(s)
-        self.backs(); self.normal()
-        proof = ('tt' if FN[self.name]['some'] == 'NOTHING' else self.fact[0]) if 'some' in FN[self.name] else 'good'
-        ls = tup('l%d' % j for j in range(self.k))
+    # what the contract's choice comes to
+    def told(self, way, args):
+        b = FN[self.name]['branch']; law = 'chosen' if way == 'yes' else 'passed-over'; e = '%s (%s) (%s) (%s) h' % (law, sub(b['test'], args), sub(b['yes'], args), sub(b['no'], args))
+        return conj(['refl' if p is None else 'sym (ap (λ (x : %s). x%s) (%s))' % (b['type'], p, e) for p in b['parts']])
+    # how a straight line ends
+    def finished(self, proof):
+        self.backs(); self.normal(); ls = tup('l%d' % j for j in range(self.k))
         self.lines.append('finishes ! (items rs %s %s) locals bs (%s) (look ! %d refl) (ended 𝓤 H A W rs %s %s Good %s %s %s %s)' % (
             ls, tup(self.hs), self.somes(), self.pos(0), ls, plain(self.tys[0]), par(self.vals[0]), tup(self.hs), par(self.fit[0]), proof) + ')' * self.close)
+    # a test, and what follows it on either side: `rest` are the statements behind it, the n-th on
+    def parted(self, s, rest, n):
+        c = int(s[1][1][1]); test = self.vals[c]; before = copy.deepcopy({k: v for k, v in self.__dict__.items() if k not in ('fn', 'fns', 'structs', 'defs', 'lemmas', 'used', 'n', 'said', 'types', 'goods')}); out = []; self.goods = []
+        for way, arm, holds in (('yes', s[2], 'Holds %s' % par(test)), ('no', s[3], 'Holds (not %s)' % par(test))):
+            self.__dict__.update(copy.deepcopy(before)); self.lines = []; self.close = 0; steps = []
+            while arm[0] == 'seq': steps.append(arm[1]); arm = arm[2]
+            for x in steps: self.step(x)
+            self.step(arm, True); self.say('exec ! (𝓣 .C) (𝓣 .Λ) E its.t-%d (atRet E Upshot)' % (n + 1))
+            for x in rest: self.step(x)
+            vals = (self.vals[0], list(self.hs)); self.finished('(good-%s h)' % way); out.append(self.lines); self.goods.append((way, holds, vals[0], vals[1][:self.k], test))
+        self.lines = before['lines'] + ['let E : Env 𝓤 H = envOf H locals bs in', 'first ! $ branches ! (var ! %d refl)' % (before['off'] + 2 * c)]
+        for way, ls in zip(('yes', 'no'), out): self.lines += ['(λ h.'] + ls; self.lines[-1] += ')'
+        self.lines[-1] += ')' * before['close']
+    def straight(self):
+        b = self.fn['body']; stmts = []; self.named = 'some' not in FN[self.name]; self.goods = []
+        while b != 'return': assert b[0] == 'seq', b; stmts.append(b[1]); b = b[2]
+        for i, s in enumerate(stmts):
+            if s[0] == 'if': self.parted(s, stmts[i + 1:], i + 1); break
+            self.step(s)
+        else:
+            proof = ('tt' if FN[self.name]['some'] == 'NOTHING' else self.fact[0]) if 'some' in FN[self.name] else 'good'
+            ends = (self.vals[0], None); self.finished(proof); self.goods = [('', '', self.vals[0], self.hs, '')]
         args = ['x%d' % j for j in range(self.k)] + ['a%d' % (i - self.k - 1) for i in self.plains]
         out = lambda t: re.sub(r'(?<![\w-])((?:val|last)-[\d-]*\d)', lambda m: '(%s)' % ' '.join([m.group(1)] + args) if args else m.group(1), t)
         cc = self.locals_text() + self.common()
@@ -360,11 +383,16 @@ class Walk:
             for n, t, d in self.defs: pre += ['  %s : %s' % (n, t), '  %s = %s' % (n, d), '']
             cc = cc[:i2] + (pre if self.defs else []) + cc[i2:]
             for c, t1, mine, use, t2 in self.lemmas: cc += ['      %s : %s' % (c, out(t1))] + (['      unfolding ' + ' '.join(mine)] if mine else []) + ['      %s %s = %s' % (c, use, out(t2)), '']
-            cc += ['      good : Good %s %s' % (out(par(self.vals[0])), out(tup(self.hs)))] + (['      unfolding ' + ' '.join([n for n, t, d in self.defs] + FN[self.name].get('unfold', []))] if self.defs or 'unfold' in FN[self.name] else []) + ['      good = %s' % (sub(FN[self.name]['good'], args) if 'good' in FN[self.name] else conj(['refl'] * (1 + self.k))), '']
-        o = self.head('a straight line of calls.') + cc
+            unfold = [n for n, t, d in self.defs] + FN[self.name].get('unfold', [])
+            for way, holds, val, hs, test in self.goods:
+                name = 'good-' + way if way else 'good'
+                cc += ['      %s : %sGood %s %s' % (name, out(holds) + ' → ' if holds else '', out(par(val)), out(tup(hs)))] + (['      unfolding ' + ' '.join(unfold)] if unfold else [])
+                if way: cc += ['      %s h = %s' % (name, self.told(way, args)), '']
+                else: cc += ['      good = %s' % (sub(FN[self.name]['good'], args) if 'good' in FN[self.name] else conj(['refl'] * (1 + self.k))), '']
+        o = self.head('a straight line of calls.' if not self.goods or not self.goods[0][0] else 'a straight line of calls, and one of two.') + cc
         o += ['      walk : ent 𝓤 (⋆ 𝓤 H A (items rs %s %s)) (WpFn 𝓤 H (𝓣 .C) (𝓣 .Λ) code.function (pointers rs %s ++ machine ps %s) Upshot)' % (self.ls, self.xs, self.ls, self.as_), '      walk =',
               '          qed W (items rs %s %s) ∵ begins ! (𝓣 .C) (𝓣 .Λ) code.function _ _ _ locals-are (pointers rs %s ++ machine ps %s) %s _ _ (λ bs.' % (self.ls, self.xs, self.ls, self.as_, self.passes()),
-              '          -- local i stands at %d + 2i' % self.off]
+              '          -- local i stands at %d + 2i' % (2 * self.k)]
         o += ['          ' + out(l) for l in self.lines]; o[-1] += ')'
         return o + self.tail()
     def looping(self):
@@ -468,7 +496,7 @@ def uses(text, crate):
             c = re.match(r'Rattle·(\w+)\.(specs|proofs)\.', mod); own = c.group(1) == crate
             out.append('use %s as %s' % (mod.replace('Rattle.%s.%s.' % c.groups(), 'Rattle.%s.%s.' % (c.group(1), c.group(2), c.group(2))) if own else mod, alias))
     return out
-def only_used(names, text): return [n for n in names if (n.strip('_') in text if not n[0].isalpha() else re.search(r'(?<![\w′·-])%s(?![\w′·-])' % re.escape(n), text))]
+def only_used(names, text): return [n for n in names if ' then ' in text and ' else ' in text] if names == ['if_then_else_'] else [n for n in names if (n.strip('_') in text if not n[0].isalpha() else re.search(r'(?<![\w′·-])%s(?![\w′·-])' % re.escape(n), text))]
 def trimmed(lines, crate):
     head = [i for i, l in enumerate(lines) if l.startswith('use ')][-1] + 1; body = '\n'.join(lines[head:]); out = []
     for l in lines[:head]:

@@ -35,7 +35,7 @@ pub(crate) fn no_packet() -> Packet
     }
 }
 
-pub(crate) fn no_slot() -> Slot
+pub fn no_slot() -> Slot
     ensures { λ r. ⌜ r ≡ noSlot ⌝ }
 {
     let packet = no_packet();
@@ -77,7 +77,7 @@ pub(crate) fn blank(queue: Queue) -> Pair
     Pair { standing, queue }
 }
 
-pub(crate) fn no_pair() -> Pair
+pub fn no_pair() -> Pair
     ensures { λ r. ⌜ r ≡ noPair ⌝ }
 {
     let queue = Queue {
@@ -116,14 +116,14 @@ pub(crate) fn put_pair_if(pairs: &mut [Pair], i: usize, p: Pair)
     }
 }
 
-pub(crate) fn slot_at(slots: &mut [Slot], i: usize) -> Slot
+pub fn slot_at(slots: &mut [Slot], i: usize) -> Slot
     ensures { λ r. ⌜ (r ≡ slotAt (now (slots .entry)) i) × (now (slots .exit) ≡ now (slots .entry)) ⌝ }
 {
     let none = no_slot();
     slot_or(slots, i, none)
 }
 
-pub(crate) fn pair_at(pairs: &mut [Pair], i: usize) -> Pair
+pub fn pair_at(pairs: &mut [Pair], i: usize) -> Pair
     ensures { λ r. ⌜ (r ≡ pairAt (now (pairs .entry)) i) × (now (pairs .exit) ≡ now (pairs .entry)) ⌝ }
 {
     let none = no_pair();

@@ -1,3 +1,3 @@
-pub mod Answers
-pub mod Keeping
-pub mod Room
+mod Chosen
+mod Less
+mod Types

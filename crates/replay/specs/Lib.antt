@@ -1,2 +1,3 @@
+pub mod Kept
 pub mod Answer
-pub mod Reading
+pub mod Serving
