@@ -109,7 +109,7 @@ exported('post', 'post_message', **{'{4}': '(Flat.postOf {4})'})
 walk('kamusseori_audit', 'Flat.numberIf (%s)' % FN['audit']['f'], FN['audit']['z'])
 
 # ---- the program
-USES.update({'Kept': 'Rattle.replay.specs.Kept', 'Answer': 'Rattle.replay.specs.Answer', 'Serving': 'Rattle.replay.specs.Serving', 'Less': 'Rattle.replay.proofs.Less', 'Ordered': 'Rattle.answers.specs.Ordered', 'Plain': 'Rattle.answers.specs.Plain', 'Out': 'Rattle.text.specs.Out'})
+USES.update({'Kept': 'Rattle.replay.specs.Kept', 'Answer': 'Rattle.replay.specs.Answer', 'Serving': 'Rattle.replay.specs.Serving', 'Less': 'Rattle.replay.proofs.Less', 'Ordered': 'Rattle.orders.specs.Ordered', 'Plain': 'Rattle.answers.specs.Plain', 'Out': 'Rattle.text.specs.Out'})
 value(is_a='Answer.isA {0} {1}', pair_of='{0} .pair', pair_place='{0} .pair', ask_of='{0} .ask', no_reply='Serving.noReply', limits_of='Serving.limitsOf {0}', numbers_for='Serving.numbersFor {0} {1}', bytes_for='Serving.bytesFor {0} {1}',
       count_for='Serving.countFor {0}', count_place='{0} .left - 1', count_step='Serving.countStep {0} {1}', list_for='Serving.listFor {0} {1} {2} {3} {4}', slot_place='{0} .at', is_end='Kept.isEnd {0}', next_line='Kept.nextLine {0} {1} {2} {3}',
       begin='Kept.start', no_ends='record { first = 0; last = 0 }')

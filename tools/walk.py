@@ -272,7 +272,7 @@ class Walk:
     def head(self, doc):
         n = self.name; o = ['-- `%s::%s` meets its contract: %s Written by tools/walk.py from its MIR. Assumes nothing.' % (self.crate, n, doc)]
         me = module(self.fn['path'], self.crate); here = 'Rattle.%s.proofs.Types' % self.crate
-        o += ['use Rattle.lent.proofs.Bag.{%s}' % ', '.join(BAG), 'use denote.Struct.Laws as LL', 'use Rattle.refusal.specs.Loop.{loop}', 'use Rattle.refusal.proofs.Loop.{loop-done, loop-more}', 'use Rattle.refusal.specs.Choice.{if_then_else_}', 'use types.Run.{branches}', 'use lib.ListN.{take}', 'use %s.{chosen, passed-over}' % module('replay::Chosen', self.crate)]
+        o += ['use Rattle.lent.proofs.Bag.{%s}' % ', '.join(BAG), 'use denote.Struct.Laws as LL', 'use Rattle.refusal.specs.Loop.{loop}', 'use Rattle.refusal.proofs.Loop.{loop-done, loop-more}', 'use Rattle.refusal.specs.Choice.{if_then_else_}', 'use types.Run.{branches}', 'use lib.ListN.{take}', 'use Rattle.lent.proofs.Chosen.{chosen, passed-over}']
         if self.types: o += ['use %s.{%s}' % (here, ', '.join(x for t in sorted(self.types) for x in ((t + '-row', 'P' + t, 'Q' + t, t + '-ty', t + '-typed') if t in ENUMS else (t + '-row', t + '-type', t + '-laws', t + '-plain', 'P' + t, 'Q' + t, t + '-ty', t + '-typed'))))]
         for t in sorted(self.types | self.said): o += ['use %s.{%s}' % (declared(t, self.crate), t)]
         o += ['@@USES@@']

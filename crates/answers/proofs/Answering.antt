@@ -15,7 +15,7 @@ use Rattle.text.specs.declared.Filled.the-variants.{Bytes, None}
 use Rattle.text.specs.Hex.{isHex, octets, filled, buffered}
 use Rattle.text.specs.Line.{parsedOf}
 use Rattle.text.proofs.Decoding.{decoded}
-use Rattle.text.proofs.Lines.{too-long, kept-enough}
+use Rattle.text.proofs.Lines.{too-long}
 use Rattle.wire.specs.declared.Header.{Header}
 use Rattle.wire.specs.declared.Written.{Written}
 use Rattle.wire.specs.declared.Size.{Size}
@@ -23,7 +23,6 @@ use Rattle.wire.specs.Header.{writeOf}
 use Rattle.answers.specs.Said.{unreadText}
 use Rattle.answers.specs.Headers.{widest, within, headerOf, sizeText, writtenText, writeText}
 use Rattle.answers.specs.Plain.{askText, textOf}
-use Rattle.answers.specs.Ordered.{ordered, orderOf}
 
 -- ---- the bytes of a HEX that fits its buffer
 
@@ -67,7 +66,3 @@ kept-text l n = go (decLt 20000 (length l))
     go : Dec (20000 < length l) → textOf (take 20001 l) n ≡ textOf l n
     go (yes h) = sym (unread (take 20001 l) n (simp length-take (omega arith))) ∙ unread l n h
     go (no h) = ap (λ (x : List ℕ). textOf x n) (take-all 20001 l (omega arith))
-
-pub kept-order : (l : List ℕ) → orderOf (take 20001 l) ≡ orderOf l
-unfolding orderOf
-kept-order l = ap ordered (kept-enough l)

@@ -1,5 +1,4 @@
 pub mod Answering
-pub mod Cutting
 pub mod Lengths
 pub mod Narrow
 pub mod Rest

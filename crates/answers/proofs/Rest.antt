@@ -2,53 +2,19 @@
 use mathlib.Core.Path.{_≡_, refl}
 use mathlib.Core.Bool.{true, false≢true}
 use mathlib.Core.List.{List, [], _∷_}
-use mathlib.Core.Logic.{inl, inr}
 use Prim.Native.Nat.{ℕ}
-use lib.Dec.{eqb}
 use types.Run.{OneOf}
 use denote.Enum.Declared.{tagOf}
-use borrow.Author.Tests.{eq-eqb}
 use Rattle.refusal.specs.Choice.{among}
-use Rattle.refusal.proofs.Cases.{or-any}
 use Rattle.text.specs.declared.Ask.{Ask}
 use Rattle.text.specs.declared.Ask.the-variants.{Nothing, Unread, Fresh, Open, Post, Emit, Ack, Response, Timer, Close, Room, Show, Free, Write, Read}
 use Rattle.text.proofs.Ask as ask
+use Rattle.text.proofs.Keyed.{keyed}
 use Rattle.rules.specs.declared.Answer.{Answer}
 use Rattle.rules.specs.declared.Answer.the-variants.{Dropped, Done, Resending, Held, Resumed, Idle, Ended}
 use Rattle.rules.proofs.Answer as answer
-use Rattle.engine.specs.declared.Ask.the-variants as engine
-use Rattle.answers.specs.Ordered.{askOf}
 use Rattle.answers.specs.Plain.{askText}
 use Rattle.answers.specs.Replied.{donePlace, placeText}
-
-pub keyed : (ks : List ℕ) (t : ℕ) → OneOf ks t → among t ks ≡ true
-keyed [] t h = absurd h
-keyed (k ∷ []) t e = rw (eq-eqb t k e)
-keyed (k ∷ j ∷ ks) t (inl e) = rw (eq-eqb t k e)
-keyed (k ∷ j ∷ ks) t (inr h) = rw (keyed (j ∷ ks) t h) (or-any (eqb t k))
-
-abbrev notCalls : List ℕ
-notCalls = 0 ∷ 1 ∷ 2 ∷ 9 ∷ 10 ∷ 11 ∷ 12 ∷ 13 ∷ 14 ∷ []
-
-pub no-call : (a : Ask) (xs : List ℕ) → OneOf notCalls (tagOf ask.the-type a) → engine.Close ≡ askOf a xs
-no-call a xs h = go a (keyed notCalls (tagOf ask.the-type a) h)
-  where
-    go : (a : Ask) → among (tagOf ask.the-type a) notCalls ≡ true → engine.Close ≡ askOf a xs
-    go Nothing e = refl
-    go Unread e = refl
-    go Fresh e = refl
-    go Open e = absurd (false≢true e)
-    go Post e = absurd (false≢true e)
-    go Emit e = absurd (false≢true e)
-    go Ack e = absurd (false≢true e)
-    go Response e = absurd (false≢true e)
-    go Timer e = absurd (false≢true e)
-    go Close e = refl
-    go Room e = refl
-    go Show e = refl
-    go Free e = refl
-    go Write e = refl
-    go Read e = refl
 
 abbrev notText : List ℕ
 notText = 0 ∷ 2 ∷ 3 ∷ 4 ∷ 5 ∷ 6 ∷ 7 ∷ 8 ∷ 9 ∷ 10 ∷ 11 ∷ 12 ∷ []

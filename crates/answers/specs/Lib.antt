@@ -1,7 +1,5 @@
 pub mod Said
 pub mod Headers
 pub mod Plain
-pub mod Ordered
-pub mod Widths
 pub mod Replied
 pub mod Shown

@@ -9,15 +9,9 @@ use crate::header::answer_read;
 use crate::header::answer_write;
 use crate::print::put_line;
 use text::Ask;
+use text::front;
 use text::parse;
 use text::put;
-
-// The first `n` bytes, or all where there are fewer.
-pub fn front(s: &[u8], n: usize) -> &[u8]
-    ensures { λ r. ⌜ now r ≡ take n (now (s .entry)) ⌝ }
-{
-    if n < s.len() { &s[..n] } else { s }
-}
 
 pub fn put_unread(out: &mut [u8], number: u64, at: usize) -> usize
     ensures { λ r. ⌜ (r ≡ putAll (Out·out (now (out .entry)) at) (unreadText number) .at) × (now (out .exit) ≡ putAll (Out·out (now (out .entry)) at) (unreadText number) .bytes) ⌝ }

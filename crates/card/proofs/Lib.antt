@@ -1,3 +1,5 @@
 mod Types
 pub mod Called
 pub mod Fresh
+pub mod Limited
+pub mod Memory

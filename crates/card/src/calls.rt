@@ -1,4 +1,4 @@
-// The calls by their own names. Each asks the one body, and lends it an empty row in place of a buffer that the call does not use.
+// The calls by their own names. Each asks the one body, and lends it a row of one in place of a buffer that the call does not use.
 ghost use mathlib.Core.Path.{_≡_};
 ghost use Rattle.rules.specs.Card.{small};
 ghost use Rattle.rules.specs.Requests.{opening, posting, emitting, acknowledging, responding, ticking, closing, starting, on};

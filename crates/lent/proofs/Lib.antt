@@ -9,3 +9,4 @@ pub mod Put
 pub mod Elem
 pub mod Local
 pub mod Bag
+pub mod Chosen

@@ -1,3 +1,3 @@
-mod Chosen
+mod Past
 mod Less
 mod Types

@@ -10,7 +10,7 @@ use Rattle.text.specs.Text.{bytes}
 use Rattle.rules.specs.declared.Pair.{Pair}
 use Rattle.rules.specs.declared.Reply.{Reply}
 use Rattle.rules.specs.declared.Slot.{Slot}
-use Rattle.answers.specs.declared.Order.{Order}
+use Rattle.orders.specs.declared.Order.{Order}
 use Rattle.answers.specs.Said.{numeral}
 use Rattle.answers.specs.Replied.{replyText}
 use Rattle.answers.specs.Shown.{standingText, memberText}

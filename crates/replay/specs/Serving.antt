@@ -21,8 +21,8 @@ use Rattle.rules.specs.Calls.{Step, call}
 use Rattle.engine.specs.Body.{Ran}
 use Rattle.card.specs.declared.Limits.{Limits}
 use Rattle.card.specs.Inner.{bodyIn}
-use Rattle.answers.specs.declared.Order.{Order}
-use Rattle.answers.specs.Ordered.{orderOf}
+use Rattle.orders.specs.declared.Order.{Order}
+use Rattle.orders.specs.Ordered.{orderOf}
 use Rattle.answers.specs.Plain.{textOf}
 use Rattle.replay.specs.declared.keeping.Place.{Place}
 use Rattle.replay.specs.declared.lists.Listing.{Listing}

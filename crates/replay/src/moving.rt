@@ -1,9 +1,9 @@
 // What is read and what is written.
 ghost use Prim.Native.Nat.{_<_};
 use crate::keeping::Place;
-use answers::front;
 use libc::STDIN_FILENO;
 use libc::STDOUT_FILENO;
+use text::front;
 
 // What is collected before it is written out.
 const HALF: usize = 32768;

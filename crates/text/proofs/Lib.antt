@@ -3,6 +3,7 @@ pub mod Cursor
 pub mod Decoding
 pub mod Digits
 pub mod Frames
+pub mod Keyed
 pub mod Lines
 pub mod Matching
 pub mod Numbers

@@ -13,6 +13,7 @@ pub use line::parse;
 pub use print::put;
 pub use print::put_decimal;
 pub use words::argument;
+pub use words::front;
 
 // What a word is that stands where a number should.
 pub enum Number {

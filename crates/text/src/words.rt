@@ -2,7 +2,7 @@
 ghost use mathlib.Core.Path.{_≡_};
 ghost use mathlib.Core.List.{[]};
 ghost use Prim.Native.Nat.{_≤_};
-ghost use lib.ListN.{length, getD};
+ghost use lib.ListN.{length, getD, take};
 ghost use Rattle.text.specs.Words.{blank, words};
 ghost use Rattle.text.specs.Inner.{Skipped, Stopped, Told};
 use crate::Span;
@@ -62,4 +62,11 @@ pub fn argument(line: &[u8]) -> &[u8]
     let start = second.start;
     let end = second.end;
     &line[start..end]
+}
+
+// The first `n` bytes, or all where there are fewer.
+pub fn front(s: &[u8], n: usize) -> &[u8]
+    ensures { λ r. ⌜ now r ≡ take n (now (s .entry)) ⌝ }
+{
+    if n < s.len() { &s[..n] } else { s }
 }

@@ -1,6 +1,6 @@
 use mathlib.Core.Path.{refl, sym, _∙_}
 use Rattle.answers.proofs.Saying.{parts}
-use Rattle.replay.proofs.Chosen.{either-is}
+use Rattle.replay.proofs.Past.{either-is}
 use Rattle.text.specs.Out.{putAll}
 use borrow.Author.Needs.{needs}
 use Rattle.replay.proofs.heads.put_head.Statement.{statement}

@@ -1,5 +1,5 @@
 use mathlib.Core.Path.{refl}
-use Rattle.replay.proofs.Chosen.{either-is}
+use Rattle.replay.proofs.Past.{either-is}
 use Rattle.text.specs.Out.{putAll}
 use borrow.Author.Needs.{needs}
 use Rattle.replay.proofs.heads.put_tail.Statement.{statement}

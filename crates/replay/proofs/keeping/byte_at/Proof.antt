@@ -1,6 +1,6 @@
 use denote.Ref.{now}
 use mathlib.Core.Path.{refl, sym}
-use Rattle.replay.proofs.Chosen.{getD-past}
+use Rattle.replay.proofs.Past.{getD-past}
 use borrow.Author.Needs.{needs}
 use Rattle.replay.proofs.keeping.byte_at.Statement.{statement}
 use Rattle.replay.proofs.keeping.byte_at.Tie as tie

@@ -3,7 +3,7 @@ use Prim.Native.Nat.{ℕ}
 use lib.ListN.{length-set}
 use denote.Ref.{now}
 use Rattle.replay.specs.Kept.{keptBy}
-use Rattle.replay.proofs.Chosen.{set-past}
+use Rattle.replay.proofs.Past.{set-past}
 use borrow.Author.Needs.{needs}
 use Rattle.replay.proofs.keeping.keep.Statement.{statement}
 use Rattle.replay.proofs.keeping.keep.Tie as tie
