@@ -1,3 +1,5 @@
 mod Past
-mod Less
+pub mod Less
+pub mod Text
+pub mod Lines
 mod Types

@@ -1,15 +1,17 @@
 -- What a line answers that asks something of the tables, from "Calls" of the trace protocol. Assumes nothing.
 use Prim.Native.Nat.{ℕ, zero, suc, _-_}
-use mathlib.Core.Bool.{Bool, _||_, _&&_}
+use mathlib.Core.Bool.{Bool, true, false, _||_, _&&_}
 use mathlib.Core.List.{List, [], _++_}
 use lib.Dec.{eqb, ltb, leb}
 use Rattle.refusal.specs.Choice.{if_then_else_}
 use Rattle.text.specs.declared.Ask.{Ask}
 use Rattle.text.specs.declared.Ask.the-variants.{Nothing, Unread, Fresh, Open, Post, Emit, Ack, Response, Timer, Close, Room, Show, Free, Write, Read}
 use Rattle.text.specs.Text.{bytes}
+use Rattle.rules.specs.declared.Ends.{Ends}
 use Rattle.rules.specs.declared.Pair.{Pair}
 use Rattle.rules.specs.declared.Reply.{Reply}
 use Rattle.rules.specs.declared.Slot.{Slot}
+use Rattle.rules.specs.Slots.{slotAt}
 use Rattle.orders.specs.declared.Order.{Order}
 use Rattle.answers.specs.Said.{numeral}
 use Rattle.answers.specs.Replied.{replyText}
@@ -60,3 +62,15 @@ tailOf q = if shows q || isA 5 q then bytes "\n" else []
 -- a slot in a list: as a packet that is held, or its number alone
 abbrev pub itemText : Bool → ℕ → Slot → List ℕ
 itemText full slot s = if full then memberText slot s else numeral slot
+
+-- k slots, from `at` on by the links
+unfoldable pub itemsText : List Slot → Bool → ℕ → ℕ → List ℕ
+itemsText ss full at zero = []
+itemsText ss full at (suc k) = itemText full at (slotAt ss at) ++ itemsText ss full (slotAt ss at .link) k
+
+-- "for each packet held, in order"; "the free queue's slot numbers, first to last"
+abbrev pub listedText : Order → Pair → Ends → ℕ → List Slot → List ℕ
+listedText q p e free ss =
+    if shows q then itemsText ss true (p .queue .first) (p .queue .held)
+    else if isA 5 q then itemsText ss false (e .first) free
+    else []

@@ -2,7 +2,7 @@
 use Prim.Native.Nat.{ℕ, _+_, _-_, _<_, min}
 use mathlib.Core.Path.{_≡_}
 use mathlib.Core.Bool.{Bool, true, false}
-use mathlib.Core.List.{List, []}
+use mathlib.Core.List.{List, [], _++_}
 use lib.Dec.{eqb, ltb}
 use lib.ListN.{length, getD, set, take}
 use Rattle.refusal.specs.Choice.{if_then_else_}
@@ -28,7 +28,7 @@ use Rattle.replay.specs.declared.keeping.Place.{Place}
 use Rattle.replay.specs.declared.lists.Listing.{Listing}
 use Rattle.replay.specs.declared.lists.Counting.{Counting}
 use Rattle.replay.specs.Kept.{isEnd, keptBy, nextLine}
-use Rattle.replay.specs.Answer.{isA, shows, headOf, tailOf, itemText}
+use Rattle.replay.specs.Answer.{isA, shows, headOf, tailOf, itemText, listedText}
 
 -- ---- the tables
 
@@ -62,11 +62,17 @@ counted ps w = loop (λ (x : Counting). x .left) (countTurn ps) w
 
 -- ---- a list of slots
 
+abbrev pub shownList : Pair → ℕ → Listing
+shownList p to = record { left = p .queue .held; at = p .queue .first; to = to; full = true }
+
+abbrev pub freeList : Ends → Counting → ℕ → Listing
+freeList e c to = record { left = 256 - c .held; at = e .first; to = to; full = false }
+
+abbrev pub noList : ℕ → Listing
+noList to = record { left = 0; at = 0; to = to; full = false }
+
 abbrev pub listFor : Order → Pair → Ends → Counting → ℕ → Listing
-listFor q p e c to =
-    if shows q then record { left = p .queue .held; at = p .queue .first; to = to; full = true }
-    else if isA 5 q then record { left = 256 - c .held; at = e .first; to = to; full = false }
-    else record { left = 0; at = 0; to = to; full = false }
+listFor q p e c to = if shows q then shownList p to else if isA 5 q then freeList e c to else noList to
 
 pub record Listed : Type 0 where
   pub work : Listing
@@ -105,42 +111,54 @@ carriedOut q w t numbers buffer =
     else record { reply = restarted q t .said .reply; tables = restarted q t .next; numbers = numbers; bytes = buffer }
 
 module _ (d : Desk) where
-  abbrev order : Order
-  order = orderOf (take (d .place .kept) (d .line))
+  abbrev pub orderIn : Order
+  orderIn = orderOf (take (d .place .kept) (d .line))
 
-  abbrev ran : Ran
-  ran = carriedOut order (d .place) (d .tables) (d .numbers) (d .bytes)
+  abbrev pub ranBy : Ran
+  ranBy = carriedOut orderIn (d .place) (d .tables) (d .numbers) (d .bytes)
 
-  abbrev shown : Pair
-  shown = pairAt (ran .tables .pairs) (order .pair)
+  abbrev pub shownBy : Pair
+  shownBy = pairAt (ranBy .tables .pairs) (orderIn .pair)
 
-  abbrev plainPut : Out
+  abbrev pub plainPut : Out
   plainPut = putAll (out (d .text) (d .place .at)) (textOf (take (d .place .kept) (d .line)) (d .place .number))
 
-  abbrev headPut : Out
-  headPut = putAll (out (plainPut .bytes) (plainPut .at)) (headOf (ran .numbers) (ran .bytes) order (ran .reply) shown)
+  abbrev pub headPut : Out
+  headPut = putAll (out (plainPut .bytes) (plainPut .at)) (headOf (ranBy .numbers) (ranBy .bytes) orderIn (ranBy .reply) shownBy)
 
-  abbrev members : Listed
-  members =
-      listed (ran .tables .slots)
+  abbrev pub counts : Counting
+  counts = counted (ranBy .tables .pairs) (countFor orderIn)
+
+  abbrev pub membersPut : Listed
+  membersPut =
+      listed (ranBy .tables .slots)
       (record {
-        work = listFor order shown (ran .tables .ends) (counted (ran .tables .pairs) (countFor order)) (headPut .at);
+        work = listFor orderIn shownBy (ranBy .tables .ends) counts (headPut .at);
         text = headPut .bytes;
       })
 
-  abbrev wholePut : Out
-  wholePut = putAll (out (members .text) (members .work .to)) (tailOf order)
+  abbrev pub wholePut : Out
+  wholePut = putAll (out (membersPut .text) (membersPut .work .to)) (tailOf orderIn)
 
   unfoldable pub answered : Desk
   answered =
       record {
-        tables = ran .tables;
-        numbers = ran .numbers;
-        bytes = ran .bytes;
+        tables = ranBy .tables;
+        numbers = ranBy .numbers;
+        bytes = ranBy .bytes;
         line = d .line;
         text = wholePut .bytes;
-        place = nextLine (d .place) (wholePut .at) (numbersFor order (d .place)) (bytesFor order (d .place));
+        place = nextLine (d .place) (wholePut .at) (numbersFor orderIn (d .place)) (bytesFor orderIn (d .place));
       }
+
+-- what a line writes: what stands for it alone, the answer, the slots that are listed, the line's end
+abbrev pub lineText : Desk → List ℕ
+lineText d =
+    let q = orderIn d in
+    textOf (take (d .place .kept) (d .line)) (d .place .number)
+    ++ headOf (ranBy d .numbers) (ranBy d .bytes) q (ranBy d .reply) (shownBy d)
+    ++ listedText q (shownBy d) (ranBy d .tables .ends) (256 - counts d .held) (ranBy d .tables .slots)
+    ++ tailOf q
 
 abbrev pub Leaves : Desk → Place → List Pair → Ends → List Slot → List ℕ → List ℕ → List ℕ → List ℕ → Type 0
 Leaves d r pairs ends slots numbers buffer line text =
