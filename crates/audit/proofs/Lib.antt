@@ -4,3 +4,4 @@ pub mod Pairs
 pub mod Decided
 pub mod Bits
 pub mod Facts
+pub mod Opcodes

@@ -6,6 +6,7 @@ use message::bad_post;
 use message::both;
 use message::has_immediate;
 use message::mtu;
+use message::opcode_at;
 use message::over_ceiling;
 use message::packets_for;
 use psn::Psn;
@@ -21,9 +22,11 @@ ghost use lib.Dec.{ltb, leb, eqb};
 ghost use Rattle.refusal.specs.Choice.{if_then_else_};
 ghost use Rattle.rules.specs.Message.{pmtu, packetsFor, packetAt};
 ghost use Rattle.rules.specs.Passes.Stage.{same, allowedTo, alone, single, heading, opens, begun, newMessage};
-ghost use Rattle.rules.specs.Passes.Stage.{postOf, more, goesOn, closes, inner, isRear, behind, rearStep, stageStep, stageEnds};
+ghost use Rattle.rules.specs.Passes.Stage.{postOf, more, goesOn, closes, inner, isRear, behind, stageStep, stageEnds};
 ghost use Rattle.rules.specs.Passes.Tests.{_and_};
+ghost use Rattle.rules.specs.declared.carried.Stage.the-variants.{Start};
 ghost use Rattle.message.specs.Capped.{capped};
+ghost use Rattle.audit.specs.Stages.{rear, lead, resume};
 
 // A post that meets neither 3 nor 5.
 fn allowed_to(s: Settings, m: Post) -> bool
@@ -54,24 +57,39 @@ fn alone(p: Packet) -> Post
 }
 
 fn is_only(s: Settings, p: Packet, m: Post) -> bool
-    requires { ⌜ m .offset < 4294967296 ⌝ }
-    ensures { λ r. ⌜ r ≡ (leb (p .opcode) 11 and eqb (packetsFor (pmtu (capped s)) (p .length)) 1 and same p (packetAt (capped s) m (p .psn) 0)) ⌝ }
+    ensures { λ r. ⌜ r ≡ (leb (p .opcode) 11 and eqb (packetsFor (pmtu (capped s)) (m .length)) 1 and same p (packetAt (capped s) m (p .psn) 0)) ⌝ }
 {
-    let n = packets_for(s, p.length);
-    let here = is_packet_at(s, p, m, p.psn, 0);
-    let ok = both(n == 1, here);
-    both(p.opcode <= 11, ok)
+    let n = packets_for(s, m.length);
+    if n != 1 {
+        return false;
+    }
+    let op = opcode_at(m, 1, 0);
+    let psn = Psn::plus(p.psn, 0);
+    let here = is_made(p, op, m, psn, m.offset, m.length);
+    both(p.opcode <= 11, here)
+}
+
+// A Read Request announces its own length and has no immediate; the rest of it is its post's.
+fn is_request(p: Packet) -> bool
+    ensures { λ r. ⌜ r ≡ (eqb (p .total) (p .length) and eqb (p .value) 0) ⌝ }
+{
+    both(p.total == p.length, p.value == 0)
 }
 
 fn is_single(s: Settings, p: Packet) -> bool
     ensures { λ r. ⌜ r ≡ single (capped s) p ⌝ }
 {
     let m = alone(p);
-    let fair = allowed_to(s, m);
     if p.opcode == READ_REQUEST {
-        let read = is_made(p, READ_REQUEST as u64, m, p.psn, p.offset as u64, p.length);
+        let fair = allowed_to(s, m);
+        let read = is_request(p);
         return both(fair, read);
     }
+    // A First, Middle or Last is no message by itself.
+    if p.opcode % 6 < 4 {
+        return false;
+    }
+    let fair = allowed_to(s, m);
     let only = is_only(s, p, m);
     both(fair, only)
 }
@@ -158,9 +176,12 @@ fn is_within(count: u32, ceiling: u32) -> bool
 fn goes_on(s: Settings, w: Begun, p: Packet) -> bool
     ensures { λ r. ⌜ r ≡ goesOn (capped s) w p ⌝ }
 {
+    let op = 6 * w.kind as u64 + 1;
+    if p.opcode as u64 != op {
+        return false;
+    }
     let size = mtu(s);
     let m = post_of(w, false, w.total, 0);
-    let op = 6 * w.kind as u64 + 1;
     let psn = Psn::plus(w.first, w.count);
     let offset = w.offset as u64 + w.count as u64 * size as u64;
     let here = is_made(p, op, m, psn, offset, size);
@@ -274,37 +295,57 @@ fn behind(s: Settings, p: Packet) -> Begun
     }
 }
 
-fn rear_step(s: Settings, p: Packet) -> Stage
-    ensures { λ r. ⌜ r ≡ rearStep (capped s) p ⌝ }
+fn rear(s: Settings, p: Packet) -> Stage
+    ensures { λ r. ⌜ r ≡ rear (capped s) p ⌝ }
 {
     let size = mtu(s);
     if size <= p.offset {
         let w = behind(s, p);
-        return inner(s, w, p);
+        return Stage::Inside(w);
     }
     Stage::Lost
 }
 
-// ---- all messages
-
 fn start(s: Settings, p: Packet) -> Stage
-    ensures { λ r. ⌜ r ≡ (if isRear p then rearStep (capped s) p else newMessage (capped s) p) ⌝ }
+    ensures { λ r. ⌜ r ≡ lead (capped s) Start p ⌝ }
 {
     if is_rear(p) {
-        return rear_step(s, p);
+        return rear(s, p);
     }
-    new_message(s, p)
+    Stage::Between
+}
+
+// ---- all messages
+
+// Where a record stands. The two steps make one call each of what looks into a record: all is compiled into one loop.
+fn lead(s: Settings, w: Stage, p: Packet) -> Stage
+    ensures { λ r. ⌜ r ≡ lead (capped s) w p ⌝ }
+{
+    match w {
+        Stage::Start => start(s, p),
+        Stage::Between => Stage::Between,
+        Stage::Inside(m) => Stage::Inside(m),
+        Stage::Lost => Stage::Lost,
+    }
+}
+
+// What the record at such a place makes of it.
+fn resume(s: Settings, w: Stage, p: Packet) -> Stage
+    ensures { λ r. ⌜ r ≡ resume (capped s) w p ⌝ }
+{
+    match w {
+        Stage::Start => Stage::Lost,
+        Stage::Between => new_message(s, p),
+        Stage::Inside(m) => inner(s, m, p),
+        Stage::Lost => Stage::Lost,
+    }
 }
 
 pub(crate) fn stage_step(s: Settings, w: Stage, p: Packet) -> Stage
     ensures { λ r. ⌜ r ≡ stageStep (capped s) w p ⌝ }
 {
-    match w {
-        Stage::Start => start(s, p),
-        Stage::Between => new_message(s, p),
-        Stage::Inside(m) => inner(s, m, p),
-        Stage::Lost => Stage::Lost,
-    }
+    let at = lead(s, w, p);
+    resume(s, at, p)
 }
 
 pub(crate) fn stage_ends(w: Stage) -> bool

@@ -9,6 +9,7 @@ ghost use mathlib.Core.Path.{_≡_};
 ghost use mathlib.Core.Bool.{false};
 ghost use Prim.Native.Nat.{_+_, _/_, _%_, _^_, _≤_, _<_, max};
 ghost use lib.Dec.{leb};
+ghost use lib.ListN.{getD, set};
 ghost use Rattle.refusal.specs.Choice.{if_then_else_};
 ghost use Rattle.rules.specs.Card.{small};
 ghost use Rattle.rules.specs.Passes.Tables.{has, put, claimBy, addQueue, failed, isNew, tallyFrom, tallyFits, tallyStep};
@@ -16,12 +17,50 @@ ghost use Rattle.rules.specs.Passes.Tests.{_and_};
 
 // ---- a set of slot numbers
 
+// A word by tests on its place: a place that is a number in the code keeps the words out of memory.
+fn word_at(words: [u64; 4], at: usize) -> u64
+    requires { ⌜ at < 4 ⌝ }
+    ensures { λ r. ⌜ r ≡ getD words at 0 ⌝ }
+{
+    if at == 0 {
+        return words[0];
+    }
+    if at == 1 {
+        return words[1];
+    }
+    if at == 2 {
+        return words[2];
+    }
+    words[3]
+}
+
+fn with_word(words: [u64; 4], at: usize, word: u64) -> [u64; 4]
+    requires { ⌜ at < 4 ⌝ }
+    ensures { λ r. ⌜ r ≡ set words at word ⌝ }
+{
+    let mut all = words;
+    if at == 0 {
+        all[0] = word;
+        return all;
+    }
+    if at == 1 {
+        all[1] = word;
+        return all;
+    }
+    if at == 2 {
+        all[2] = word;
+        return all;
+    }
+    all[3] = word;
+    all
+}
+
 fn has_bit(words: [u64; 4], i: u32) -> bool
     requires { ⌜ i < 256 ⌝ }
     ensures { λ r. ⌜ r ≡ has words i ⌝ }
 {
-    let at = (i / 64) as usize;
-    (words[at] >> (i % 64)) % 2 == 1
+    let word = word_at(words, (i / 64) as usize);
+    (word >> (i % 64)) % 2 == 1
 }
 
 fn with_bit(word: u64, b: u32) -> u64
@@ -36,10 +75,9 @@ fn put_bit(words: [u64; 4], i: u32) -> [u64; 4]
     ensures { λ r. ⌜ r ≡ put words i ⌝ }
 {
     let at = (i / 64) as usize;
-    let word = words[at];
-    let mut set = words;
-    set[at] = with_bit(word, i % 64);
-    set
+    let word = word_at(words, at);
+    let more = with_bit(word, i % 64);
+    with_word(words, at, more)
 }
 
 fn is_new(words: [u64; 4], q: Queue) -> bool

@@ -18,10 +18,6 @@ use rules::carried::Course;
 use rules::carried::Stage;
 use rules::carried::Walk;
 ghost use mathlib.Core.Path.{_≡_};
-ghost use mathlib.Core.Bool.{true};
-ghost use lib.Dec.{eqb};
-ghost use Rattle.refusal.specs.Choice.{if_then_else_};
-ghost use Rattle.rules.specs.Account.{ready};
 ghost use Rattle.rules.specs.Card.{small};
 ghost use Rattle.rules.specs.Passes.Course.{lineFits, courseEnds};
 ghost use Rattle.rules.specs.Passes.Queue.{walkFrom, step, walkEnds};
@@ -70,16 +66,6 @@ fn ready_ends(l: Line, order: Course, messages: Stage) -> bool
     both(fits, ok)
 }
 
-// Only of a ready pair.
-fn if_ready(state: u32, ok: bool) -> bool
-    ensures { λ r. ⌜ r ≡ (if eqb state ready then ok else true) ⌝ }
-{
-    if state == State::READY {
-        return ok;
-    }
-    true
-}
-
 pub(crate) fn walk_ends(t: Standing, q: Queue, w: Walk) -> bool
     ensures { λ r. ⌜ r ≡ walkEnds (small .none) t q w ⌝ }
 {
@@ -87,8 +73,10 @@ pub(crate) fn walk_ends(t: Standing, q: Queue, w: Walk) -> bool
     let links = w.trail;
     let order = w.course;
     let messages = w.stage;
-    let ready = ready_ends(l, order, messages);
-    let rest = if_ready(t.state, ready);
     let run = trail_ends(q, links);
+    if t.state != State::READY {
+        return both(run, true);
+    }
+    let rest = ready_ends(l, order, messages);
     both(run, rest)
 }

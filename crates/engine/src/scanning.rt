@@ -21,6 +21,7 @@ use rules::Pair;
 use rules::Post;
 use rules::Slot;
 use rules::Standing;
+use walks::copied;
 ghost use mathlib.Core.Path.{_≡_};
 ghost use Rattle.message.specs.Capped.{tidy};
 ghost use mathlib.Core.Bool.{_||_};
@@ -43,6 +44,21 @@ pub(crate) fn is_sought(t: Standing, k: Seek, p: Packet) -> bool
     }
 }
 
+// A search as it is, with its packet field by field.
+fn kept(c: Search) -> Search
+    ensures { λ r. ⌜ r ≡ c ⌝ }
+{
+    let seek = c.seek;
+    let before = c.found;
+    let packet = copied(before.packet);
+    let found = Found {
+        left: before.left,
+        slot: before.slot,
+        packet,
+    };
+    Search { seek, found }
+}
+
 // A search goes on until it has found one.
 pub(crate) fn seek_step(t: Standing, left: u32, at: u32, p: Packet, c: Search) -> Search
     ensures { λ r. ⌜ r ≡ seekStep (tidy t) left at p c ⌝ }
@@ -51,17 +67,18 @@ pub(crate) fn seek_step(t: Standing, left: u32, at: u32, p: Packet, c: Search) -
     let before = c.found;
     let here = is_sought(t, seek, p);
     if 0 < before.left {
-        return c;
+        return kept(c);
     }
     if here {
+        let packet = copied(p);
         let found = Found {
             left,
             slot: at,
-            packet: p,
+            packet,
         };
         return Search { seek, found };
     }
-    c
+    kept(c)
 }
 
 fn is_idle(k: Seek) -> bool

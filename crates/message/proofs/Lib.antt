@@ -1,4 +1,3 @@
 pub mod Cuts
 pub mod Fitting
 pub mod Numbers
-pub mod Rows

@@ -1,41 +1,45 @@
-// What an opcode carries, off wire's table, and the opcode of each place of a message.
+// What an opcode carries, by comparisons, which cost less than a row of wire's table, and the opcode of each place of a message.
+use crate::straight::either;
 use rules::Post;
-use wire::Carries;
 ghost use mathlib.Core.Path.{_≡_};
 ghost use Prim.Native.Nat.{_≤_};
 ghost use Rattle.refusal.specs.Choice.{if_then_else_};
-ghost use Rattle.wire.specs.Opcodes.{carriesOf, hasReth, hasImmediate, isLast};
+ghost use Rattle.wire.specs.Opcodes.{hasReth, hasImmediate, isLast};
 ghost use Rattle.rules.specs.Message.{opcodeAt};
-
-// An opcode's row; numbers past a header's eight bits have the row of one that is not known.
-pub(crate) fn carries(op: u64) -> Carries
-    ensures { λ r. ⌜ r ≡ carriesOf op ⌝ }
-{
-    if 255 < op {
-        return Carries::of(255);
-    }
-    Carries::of(op as u8)
-}
 
 pub fn has_reth(op: u64) -> bool
     ensures { λ r. ⌜ r ≡ hasReth op ⌝ }
 {
-    let row = carries(op);
-    row.reth
+    let mut is = either(op == 12, false);
+    is = either(op == 11, is);
+    is = either(op == 10, is);
+    either(op == 6, is)
 }
 
 pub fn has_immediate(op: u64) -> bool
     ensures { λ r. ⌜ r ≡ hasImmediate op ⌝ }
 {
-    let row = carries(op);
-    row.immediate
+    let mut is = either(op == 11, false);
+    is = either(op == 9, is);
+    is = either(op == 5, is);
+    either(op == 3, is)
 }
 
 pub(crate) fn is_last(op: u64) -> bool
     ensures { λ r. ⌜ r ≡ isLast op ⌝ }
 {
-    let row = carries(op);
-    row.last
+    let mut is = either(op == 17, false);
+    is = either(op == 16, is);
+    is = either(op == 15, is);
+    is = either(op == 12, is);
+    is = either(op == 11, is);
+    is = either(op == 10, is);
+    is = either(op == 9, is);
+    is = either(op == 8, is);
+    is = either(op == 5, is);
+    is = either(op == 4, is);
+    is = either(op == 3, is);
+    either(op == 2, is)
 }
 
 fn late(m: Post) -> u64

@@ -3,7 +3,7 @@ use crate::straight::smaller;
 use rules::Post;
 use rules::Settings;
 ghost use mathlib.Core.Path.{_≡_};
-ghost use Prim.Native.Nat.{_^_, _≤_};
+ghost use Prim.Native.Nat.{_+_, _^_, _≤_};
 ghost use Rattle.rules.specs.Message.{pmtu, packetsFor, asksRead, psnsFor, slotsFor, lengthAt};
 ghost use Rattle.rules.specs.Timer.{timeoutOf};
 ghost use Rattle.message.specs.Capped.{capped};
@@ -16,22 +16,31 @@ pub fn mtu(s: Settings) -> u32
     128 << code
 }
 
-// Rounded up.
-fn parts(mtu: u32, len: u32) -> u32
-    requires { ⌜ (128 ≤ mtu) × (mtu ≤ 4096) ⌝ }
+// The PMTU is 2 to this.
+fn width(s: Settings) -> u32
+    ensures { λ r. ⌜ (r ≡ 7 + capped s .pmtu) × (r ≤ 12) ⌝ }
+{
+    let code = smaller(s.pmtu, 5);
+    7 + code
+}
+
+// Rounded up, by a shift: a division would cost more than the rest of what looks at a packet.
+fn parts(mtu: u32, width: u32, len: u32) -> u32
+    requires { ⌜ (mtu ≡ 2 ^ width) × (128 ≤ mtu) × (mtu ≤ 4096) × (width ≤ 12) ⌝ }
     ensures { λ r. ⌜ (r ≡ packetsFor mtu len) × (1 ≤ r) × (r ≤ 33554432) ⌝ }
 {
     if len == 0 {
         return 1;
     }
-    ((len as u64 + (mtu as u64 - 1)) / mtu as u64) as u32
+    ((len as u64 + (mtu as u64 - 1)) >> width) as u32
 }
 
 pub fn packets_for(s: Settings, len: u32) -> u32
     ensures { λ r. ⌜ (r ≡ packetsFor (pmtu (capped s)) len) × (1 ≤ r) × (r ≤ 33554432) ⌝ }
 {
     let size = mtu(s);
-    parts(size, len)
+    let by = width(s);
+    parts(size, by, len)
 }
 
 pub(crate) fn asks_read(m: Post) -> bool

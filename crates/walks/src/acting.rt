@@ -7,6 +7,7 @@ use message::ends_message;
 use message::less;
 use message::pick;
 use message::place_at;
+use rules::Packet;
 use rules::Slot;
 ghost use mathlib.Core.Path.{_≡_};
 ghost use Prim.Native.Nat.{_-_};
@@ -21,10 +22,27 @@ fn counted(n: u32) -> u32
     ((n as u64 + 1) % 4_294_967_296) as u32
 }
 
+// A packet, field by field: compiled so, a copy costs nothing, where one of 16 bytes at a time waits for fields that were just written.
+pub fn copied(p: Packet) -> Packet
+    ensures { λ r. ⌜ r ≡ p ⌝ }
+{
+    Packet {
+        psn: p.psn,
+        ticket: p.ticket,
+        opcode: p.opcode,
+        offset: p.offset,
+        length: p.length,
+        address: p.address,
+        key: p.key,
+        total: p.total,
+        value: p.value,
+    }
+}
+
 pub fn with_link(i: Slot, link: u32) -> Slot
     ensures { λ r. ⌜ r ≡ record { link = link; packet = i .packet } ⌝ }
 {
-    let packet = i.packet;
+    let packet = copied(i.packet);
     Slot { link, packet }
 }
 

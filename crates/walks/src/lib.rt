@@ -4,6 +4,7 @@ mod acting;
 mod emission;
 
 pub use acting::complete;
+pub use acting::copied;
 pub use acting::join_slot;
 pub use acting::join_step;
 pub use acting::leave_step;

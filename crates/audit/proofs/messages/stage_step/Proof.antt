@@ -1,53 +1,26 @@
--- `stage_step` meets its contract.
+-- `stage_step` meets its contract: the two steps are the definition's one.
+use mathlib.Core.Path.{sym, ap, _∙_}
+use Rattle.rules.specs.declared.carried.Stage.{Stage}
+use Rattle.message.specs.Capped.{capped}
+use Rattle.audit.specs.Stages.{resume}
+use Rattle.audit.proofs.Opcodes.{stage-is}
 use borrow.Author.Needs.{needs}
 use Rattle.audit.proofs.messages.stage_step.Statement.{statement}
 use Rattle.audit.proofs.messages.stage_step.Tie as tie
 
-enum-told : tie.Need-enum-told
-enum-told c = search needs
+lead-requires : tie.Need-lead-requires
+lead-requires c κs = search needs
 
-start-requires : tie.Need-start-requires
-start-requires c κs = search needs
-
-enum-told-2 : tie.Need-enum-told-2
-enum-told-2 c = search needs
-
-new-message-requires : tie.Need-new-message-requires
-new-message-requires c κs = search needs
-
-enum-known-w : tie.Need-enum-known-w
-enum-known-w c = search needs
-
-inner-requires : tie.Need-inner-requires
-inner-requires c κs = search needs
-
-enum-told-3 : tie.Need-enum-told-3
-enum-told-3 c = search needs
+resume-requires : tie.Need-resume-requires
+resume-requires c κs = search needs
 
 returns : tie.Need-returns
-returns c = simp (c .start .ensures, c .before .enum-told .given .1)
-
-returns-2 : tie.Need-returns-2
-returns-2 c = simp (c .new-message .ensures, c .before .enum-told2 .given .1)
-
-returns-3 : tie.Need-returns-3
-returns-3 c = simp (c .inner .ensures, c .before .before .w .given .1)
-
-returns-4 : tie.Need-returns-4
-returns-4 c = simp (c .enum-told3 .given .1)
+returns c = let a = c .before .before .args in c .resume .ensures ∙ ap (λ (x : Stage). resume (capped (a .s)) x (a .p)) (c .before .lead .ensures) ∙ stage-is (capped (a .s)) (a .w) (a .p)
 
 pub stage-step-spec : {M : Type 1} → statement M
 stage-step-spec =
     tie.close
     (tie.spec
-    enum-told
-    start-requires
-    enum-told-2
-    new-message-requires
-    enum-known-w
-    inner-requires
-    enum-told-3
-    returns
-    returns-2
-    returns-3
-    returns-4)
+    lead-requires
+    resume-requires
+    returns)

@@ -11,27 +11,26 @@ use Rattle.audit.proofs.tally.put_bit.Tie as tie
 cast-at : tie.Need-cast-at
 cast-at c = search needs
 
-mul-word : tie.Need-mul-word
-mul-word c = search needs
-
-array-read-word : tie.Need-array-read-word
-array-read-word c = search needs
+word-at-requires : tie.Need-word-at-requires
+word-at-requires c κs = search needs
 
 with-bit-requires : tie.Need-with-bit-requires
 unfolding has
-with-bit-requires c κs = (omega arith, omega (arith, eqb-false (getD (c .args .t1) (c .args .i / 64) 0 / 2 ^ (c .args .i % 64) % 2) 1 (c .pre .1)))
+with-bit-requires c κs = (omega arith, rw (c .word-at .ensures) (omega (arith, eqb-false (getD (c .before .args .words) (c .before .args .i / 64) 0 / 2 ^ (c .before .args .i % 64) % 2) 1 (c .before .pre .1))))
 
-mul-set : tie.Need-mul-set
-mul-set c = search needs
-
-array-write-set : tie.Need-array-write-set
-array-write-set c = search needs
+with-word-requires : tie.Need-with-word-requires
+with-word-requires c κs = search needs
 
 returns : tie.Need-returns
 unfolding put
-returns c = simp (c .with-bit .ensures)
+returns c = simp (c .with-word .ensures, c .before .with-bit .ensures, c .before .before .word-at .ensures)
 
 pub put-bit-spec : {M : Type 1} → statement M
 put-bit-spec =
     tie.close
-    (tie.spec cast-at mul-word array-read-word with-bit-requires mul-set array-write-set returns)
+    (tie.spec
+    cast-at
+    word-at-requires
+    with-bit-requires
+    with-word-requires
+    returns)

@@ -1,16 +1,29 @@
--- `has_immediate` meets its contract: the row's field is the test.
-use mathlib.Core.Path.{ap, _∙_}
+-- `has_immediate` meets its contract: the comparisons are the test, one by one.
 use borrow.Author.Needs.{needs}
-use Rattle.wire.specs.declared.opcode.Carries.{Carries}
-use Rattle.message.proofs.Rows.{immediate-is}
 use Rattle.message.proofs.opcodes.has_immediate.Statement.{statement}
 use Rattle.message.proofs.opcodes.has_immediate.Tie as tie
 
-carries-requires : tie.Need-carries-requires
-carries-requires c κs = search needs
+either-requires : tie.Need-either-requires
+either-requires c κs = search needs
+
+either-requires-2 : tie.Need-either-requires-2
+either-requires-2 c κs = search needs
+
+either-requires-3 : tie.Need-either-requires-3
+either-requires-3 c κs = search needs
+
+either-requires-4 : tie.Need-either-requires-4
+either-requires-4 c κs = search needs
 
 returns : tie.Need-returns
-returns c = ap (λ (r : Carries). r .immediate) (c .carries .ensures) ∙ immediate-is (c .before .args .op)
+returns c = cc
 
 pub has-immediate-spec : {M : Type 1} → statement M
-has-immediate-spec = tie.close (tie.spec carries-requires returns)
+has-immediate-spec =
+    tie.close
+    (tie.spec
+    either-requires
+    either-requires-2
+    either-requires-3
+    either-requires-4
+    returns)

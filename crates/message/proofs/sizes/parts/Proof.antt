@@ -1,4 +1,5 @@
--- `parts` meets its contract: the quotient of at least 128 bytes a packet is small.
+-- `parts` meets its contract: the quotient of at least 128 bytes a packet is small, and a shift is a quotient by a power of 2.
+use mathlib.Core.Path.{sym}
 use native.Mathlib.Omega.{arith}
 use borrow.Author.Tests.{eq-eqb, ne-eqb}
 use borrow.Author.Needs.{needs}
@@ -15,16 +16,19 @@ sub-result c = search needs
 add-result : tie.Need-add-result
 add-result c = search needs
 
-div-result : tie.Need-div-result
-div-result c = search needs
+shr-result : tie.Need-shr-result
+shr-result c = search needs
 
 cast-result : tie.Need-cast-result
-cast-result c = record { fits = omega (arith, parts-of (c .before .args .mtu) (c .before .args .len) (c .before .pre .0) (omega arith) (omega arith) .high) }
+cast-result c =
+    let a = c .before .args in
+    record { fits = rw (sym (c .before .pre .0)) (omega (arith, parts-of (a .mtu) (a .len) (c .before .pre .1) (omega arith) (omega arith) .high)) }
 
 returns-2 : tie.Need-returns-2
 returns-2 c =
-    let e = parts-of (c .before .args .mtu) (c .before .args .len) (c .before .pre .0) (omega arith) (omega arith) in
-    (simp (ne-eqb _ _ (c .if1 .left)), e .low, e .high)
+    let a = c .before .args in
+    let e = parts-of (a .mtu) (a .len) (c .before .pre .1) (omega arith) (omega arith) in
+    (simp (ne-eqb _ _ (c .if1 .left), sym (c .before .pre .0)), rw (sym (c .before .pre .0)) (e .low), rw (sym (c .before .pre .0)) (e .high))
 
 pub parts-spec : {M : Type 1} → statement M
-parts-spec = tie.close (tie.spec returns sub-result add-result div-result cast-result returns-2)
+parts-spec = tie.close (tie.spec returns sub-result add-result shr-result cast-result returns-2)
