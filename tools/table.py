@@ -10,7 +10,7 @@ USES = {
     'Choice': 'Rattle.refusal.specs.Choice',
     'Calls': 'Rattle.rules.specs.Calls', 'Card': 'Rattle.rules.specs.Card', 'Requests': 'Rattle.rules.specs.Requests', 'Slots': 'Rattle.rules.specs.Slots', 'Passes': 'Rattle.rules.specs.Passes.Tables',
     'Steps': 'Rattle.audit.specs.Steps', 'Loops': 'Rattle.audit.specs.Loops', 'Queues': 'Rattle.audit.proofs.Walks', 'Pairs': 'Rattle.audit.proofs.Pairs', 'Decided': 'Rattle.audit.proofs.Decided',
-    'Acting': 'Rattle.walks.specs.Acting', 'Kept': 'Rattle.walks.proofs.Kept', 'Put': 'Rattle.walks.proofs.Put', 'Emitted': 'Rattle.walks.proofs.Emitted',
+    'Acting': 'Rattle.walks.specs.Acting', 'Gone': 'Rattle.walks.proofs.Kept', 'Put': 'Rattle.walks.proofs.Put', 'Emitted': 'Rattle.walks.proofs.Emitted',
     'Asked': 'Rattle.engine.specs.Asked', 'Scanning': 'Rattle.engine.specs.Scanning', 'Scanned': 'Rattle.engine.proofs.Scanned', 'Planning': 'Rattle.engine.specs.Planning', 'Settling': 'Rattle.engine.specs.Settling', 'Body': 'Rattle.engine.specs.Body',
     'ask': 'Rattle.engine.specs.declared.Ask.the-variants',
     'Lent': 'Rattle.card.specs.Lent', 'Inner': 'Rattle.card.specs.Inner', 'Called': 'Rattle.card.proofs.Called', 'Fresh': 'Rattle.card.proofs.Fresh',
@@ -51,7 +51,7 @@ FN['emit_record'] = dict(f='tt', z=['Acting.recorded {0} {1} {2}'])
 LEFT = 'record { work = {2}; slots = {0}; done = {1} }'; JOINED = 'record { work = {1}; slots = {0} }'; EMITTED = 'record { work = {2}; out = {1} }'
 def acts(f, x, *parts): return [par if par.startswith('{') else '%s (%s) .%s' % (f, x, par) for par in parts]
 walk('leave_turn', *(lambda a: (a[0], a[1:]))(acts('Acting.leaveTurn', LEFT, 'work', 'slots', 'done')))
-walk('leave', *(lambda a: (a[0], a[1:]))(acts('Acting.leave', LEFT, 'work', 'slots', 'done')), loop=dict(state='Acting.Left', pack=LEFT, work='{y} .work', refs=['{y} .slots', '{y} .done'], step='Acting.leaveTurn', less='Kept.leave-less'))
+walk('leave', *(lambda a: (a[0], a[1:]))(acts('Acting.leave', LEFT, 'work', 'slots', 'done')), loop=dict(state='Acting.Left', pack=LEFT, work='{y} .work', refs=['{y} .slots', '{y} .done'], step='Acting.leaveTurn', less='Gone.leave-less'))
 walk('join_turn', *(lambda a: (a[0], a[1:]))(acts('Acting.joinTurn', JOINED, 'work', 'slots')))
 walk('join', *(lambda a: (a[0], a[1:]))(acts('Acting.join', JOINED, 'work', 'slots')), loop=dict(state='Acting.Joined', pack=JOINED, work='{y} .work', refs=['{y} .slots'], step='Acting.joinTurn', less='Put.join-less'))
 walk('emit_turn', *(lambda a: (a[0], a[1:]))(acts('Acting.emitTurn {0}', EMITTED, 'work', '{0}', 'out')))
@@ -110,7 +110,7 @@ walk('kamusseori_audit', 'Flat.numberIf (%s)' % FN['audit']['f'], FN['audit']['z
 
 # ---- the program
 USES.update({'Kept': 'Rattle.replay.specs.Kept', 'Answer': 'Rattle.replay.specs.Answer', 'Serving': 'Rattle.replay.specs.Serving', 'Less': 'Rattle.replay.proofs.Less', 'Ordered': 'Rattle.orders.specs.Ordered', 'Plain': 'Rattle.answers.specs.Plain', 'Out': 'Rattle.text.specs.Out'})
-value(is_a='Answer.isA {0} {1}', pair_of='{0} .pair', pair_place='{0} .pair', ask_of='{0} .ask', no_reply='Serving.noReply', limits_of='Serving.limitsOf {0}', numbers_for='Serving.numbersFor {0} {1}', bytes_for='Serving.bytesFor {0} {1}',
+value(is_a='Answer.isA {0} {1}', pair_of='{0} .pair', pair_place='{0} .pair', ask_of='{0} .ask', no_reply='Serving.noReply', limits_now='Serving.limitsOf {0}', numbers_for='Serving.numbersFor {0} {1}', bytes_for='Serving.bytesFor {0} {1}',
       count_for='Serving.countFor {0}', count_place='{0} .left - 1', count_step='Serving.countStep {0} {1}', list_for='Serving.listFor {0} {1} {2} {3} {4}', slot_place='{0} .at', is_end='Kept.isEnd {0}', next_line='Kept.nextLine {0} {1} {2} {3}',
       begin='Kept.start', no_ends='record { first = 0; last = 0 }')
 FN['order_of'] = dict(f='Ordered.orderOf (take {1} {0})', z=['{0}'])

@@ -18,7 +18,7 @@ use Rattle.replay.specs.declared.lists.Counting.{Counting}
 use Rattle.rules.specs.declared.Ends.{Ends}
 use Rattle.card.specs.declared.Limits.{Limits}
 use Rattle.replay.specs.declared.lists.Listing.{Listing}
-use Rattle.answers.specs.declared.Order.{Order}
+use Rattle.orders.specs.declared.Order.{Order}
 use Rattle.rules.specs.declared.Pair.{Pair}
 use Rattle.replay.specs.declared.keeping.Place.{Place}
 use Rattle.rules.specs.declared.Reply.{Reply}
@@ -33,8 +33,8 @@ use Rattle.card.proofs.Limits as m-Limits
 use Rattle.card.proofs.Limits.Laws as l-Limits
 use Rattle.replay.proofs.lists.Listing as m-Listing
 use Rattle.replay.proofs.lists.Listing.Laws as l-Listing
-use Rattle.answers.proofs.Order as m-Order
-use Rattle.answers.proofs.Order.Laws as l-Order
+use Rattle.orders.proofs.Order as m-Order
+use Rattle.orders.proofs.Order.Laws as l-Order
 use Rattle.rules.proofs.Pair as m-Pair
 use Rattle.rules.proofs.Pair.Laws as l-Pair
 use Rattle.replay.proofs.keeping.Place as m-Place

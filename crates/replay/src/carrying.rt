@@ -11,7 +11,7 @@ ghost use Rattle.replay.specs.Answer.{isA};
 ghost use Rattle.replay.specs.Serving.{noReply, restarted, carriedOut};
 use crate::heads::ask_of;
 use crate::heads::is_a;
-use crate::heads::limits_of;
+use crate::heads::limits_now;
 use crate::heads::no_reply;
 use crate::heads::pair_of;
 use crate::keeping::Place;
@@ -51,7 +51,7 @@ pub(crate) fn carry(
         r (now (pairs .exit)) (now (ends .exit)) (now (slots .exit)) (now (numbers .exit)) (now (bytes .exit)) ⌝ }
 {
     let calls = is_a(1, q);
-    let limits = limits_of(w);
+    let limits = limits_now(w);
     let pair = pair_of(q);
     let ask = ask_of(q);
     if calls {

@@ -78,7 +78,7 @@ pub(crate) fn no_reply() -> Reply
     Reply::Refused(0)
 }
 
-pub(crate) fn limits_of(w: Place) -> Limits
+pub(crate) fn limits_now(w: Place) -> Limits
     ensures { λ r. ⌜ r ≡ limitsOf w ⌝ }
 {
     Limits {

@@ -6,7 +6,7 @@ use Rattle.card.proofs.Types.{PLeaving, Slot-row}
 use Rattle.walks.specs.declared.Leaving.{Leaving}
 use Rattle.rules.specs.declared.Slot.{Slot}
 use Rattle.walks.specs.Acting as Acting
-use Rattle.walks.proofs.Kept as Kept
+use Rattle.walks.proofs.Kept as Gone
 use Rattle.card.proofs.acting.leave_turn as leave-turn
 use Rattle.card.proofs.acting.leave_turn.Symbol as #leave-turn
 use Rattle.card.proofs.acting.leave_turn.Met as leave-turn-thm
@@ -36,13 +36,13 @@ abbrev turnOf : St → St
 turnOf s = unpacked s (Acting.leaveTurn (record { work = (s .0); slots = (s .1 .0); done = (s .1 .1 .0) }))
 
 lefts : (s : St) → 0 < s .0 .moving .left → turnOf s .0 .moving .left < s .0 .moving .left
-lefts s l = Kept.leave-less (record { work = (s .0); slots = (s .1 .0); done = (s .1 .1 .0) }) l
+lefts s l = Gone.leave-less (record { work = (s .0); slots = (s .1 .0); done = (s .1 .1 .0) }) l
 
 done-of : (s : St) → s .0 .moving .left ≡ 0 → outOf s ≡ s
-done-of s z = ap (unpacked s) (loop-done (λ (y : Acting.Left). (y .work) .moving .left) Acting.leaveTurn Kept.leave-less (record { work = (s .0); slots = (s .1 .0); done = (s .1 .1 .0) }) z)
+done-of s z = ap (unpacked s) (loop-done (λ (y : Acting.Left). (y .work) .moving .left) Acting.leaveTurn Gone.leave-less (record { work = (s .0); slots = (s .1 .0); done = (s .1 .1 .0) }) z)
 
 more-of : (s : St) → 0 < s .0 .moving .left → outOf s ≡ outOf (turnOf s)
-more-of s l = ap (unpacked s) (loop-more (λ (y : Acting.Left). (y .work) .moving .left) Acting.leaveTurn Kept.leave-less (record { work = (s .0); slots = (s .1 .0); done = (s .1 .1 .0) }) l)
+more-of s l = ap (unpacked s) (loop-more (λ (y : Acting.Left). (y .work) .moving .left) Acting.leaveTurn Gone.leave-less (record { work = (s .0); slots = (s .1 .0); done = (s .1 .1 .0) }) l)
 
 module _ {M : Type 1} (𝓤 : URA M) (H : Heap 𝓤) (A : Atoms 𝓤) (mem : Memory → SProp 𝓤) (run : Routine → Fun 𝓤) where
   abbrev leave-turn-ctr : Contract 𝓤

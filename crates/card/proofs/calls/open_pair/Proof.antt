@@ -31,7 +31,7 @@ use Rattle.card.proofs.calls.open_pair.Code as code
 use Rattle.card.proofs.calls.open_pair.Code.Mir as its
 
 abbrev locals : List Local
-locals = local Reply-ty valueLocal ∷ local (sliceTy (tyRef (named 0) mut (pointee (Pair-row .written)))) valueLocal ∷ local (tyRef (named 1) mut (pointee (Ends-row .written))) valueLocal ∷ local (sliceTy (tyRef (named 2) mut (pointee (Slot-row .written)))) valueLocal ∷ local (tyInt w32) valueLocal ∷ local Settings-ty valueLocal ∷ local (tyInt w32) valueLocal ∷ local Ask-ty valueLocal ∷ local Limits-ty valueLocal ∷ local (lone (Array (UInt w32) 1 .mir)) memorySlot ∷ local (lone (Array (UInt w8) 1 .mir)) memorySlot ∷ local (tyRef erased mut (pointee (Pair-row .written))) valueLocal ∷ local (sliceTy (tyRef erased mut (pointee (Pair-row .written)))) valueLocal ∷ local (tyRef erased mut (pointee (Ends-row .written))) valueLocal ∷ local (tyRef erased mut (pointee (Slot-row .written))) valueLocal ∷ local (sliceTy (tyRef erased mut (pointee (Slot-row .written)))) valueLocal ∷ local (tyRef erased mut (lone (Array (UInt w32) 1 .mir))) valueLocal ∷ local (sliceTy (tyRef erased mut (tyInt w32))) valueLocal ∷ local (tyRef erased mut (lone (Array (UInt w8) 1 .mir))) valueLocal ∷ local (sliceTy (tyRef erased mut (tyInt w8))) valueLocal ∷ []
+locals = local Reply-ty valueLocal ∷ local (sliceTy (tyRef (named 0) mut (pointee (Pair-row .written)))) valueLocal ∷ local (tyRef (named 1) mut (pointee (Ends-row .written))) valueLocal ∷ local (sliceTy (tyRef (named 2) mut (pointee (Slot-row .written)))) valueLocal ∷ local (tyInt w32) valueLocal ∷ local Settings-ty valueLocal ∷ local (tyInt w32) valueLocal ∷ local Ask-ty valueLocal ∷ local Limits-ty valueLocal ∷ local (lone (Array (UInt w32) 1 .mir)) memorySlot ∷ local (lone (Array (UInt w8) 1 .mir)) memorySlot ∷ local (tyRef erased mut (pointee (Pair-row .written))) valueLocal ∷ local (sliceTy (tyRef erased mut (pointee (Pair-row .written)))) valueLocal ∷ local (tyRef erased mut (pointee (Ends-row .written))) valueLocal ∷ local (tyRef erased mut (pointee (Slot-row .written))) valueLocal ∷ local (sliceTy (tyRef erased mut (pointee (Slot-row .written)))) valueLocal ∷ local (tyRef erased mut (pointee (Array (UInt w32) 1 .written))) valueLocal ∷ local (sliceTy (tyRef erased mut (tyInt w32))) valueLocal ∷ local (tyRef erased mut (pointee (Array (UInt w8) 1 .written))) valueLocal ∷ local (sliceTy (tyRef erased mut (tyInt w8))) valueLocal ∷ []
 
 locals-are : code.function .locals ≡ locals
 unfolding Ask-ty Limits-ty Reply-ty Settings-ty

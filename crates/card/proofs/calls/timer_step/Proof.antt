@@ -30,7 +30,7 @@ use Rattle.card.proofs.calls.timer_step.Code as code
 use Rattle.card.proofs.calls.timer_step.Code.Mir as its
 
 abbrev locals : List Local
-locals = local Reply-ty valueLocal ∷ local (sliceTy (tyRef (named 0) mut (pointee (Pair-row .written)))) valueLocal ∷ local (tyRef (named 1) mut (pointee (Ends-row .written))) valueLocal ∷ local (sliceTy (tyRef (named 2) mut (pointee (Slot-row .written)))) valueLocal ∷ local (sliceTy (tyRef (named 3) mut (tyInt w32))) valueLocal ∷ local (tyInt w32) valueLocal ∷ local (tyInt w64) valueLocal ∷ local Ask-ty valueLocal ∷ local Limits-ty valueLocal ∷ local (lone (Array (UInt w8) 1 .mir)) memorySlot ∷ local (tyInt w64) valueLocal ∷ local (tyRef erased mut (pointee (Pair-row .written))) valueLocal ∷ local (sliceTy (tyRef erased mut (pointee (Pair-row .written)))) valueLocal ∷ local (tyRef erased mut (pointee (Ends-row .written))) valueLocal ∷ local (tyRef erased mut (pointee (Slot-row .written))) valueLocal ∷ local (sliceTy (tyRef erased mut (pointee (Slot-row .written)))) valueLocal ∷ local (tyRef erased mut (tyInt w32)) valueLocal ∷ local (sliceTy (tyRef erased mut (tyInt w32))) valueLocal ∷ local (tyRef erased mut (lone (Array (UInt w8) 1 .mir))) valueLocal ∷ local (sliceTy (tyRef erased mut (tyInt w8))) valueLocal ∷ []
+locals = local Reply-ty valueLocal ∷ local (sliceTy (tyRef (named 0) mut (pointee (Pair-row .written)))) valueLocal ∷ local (tyRef (named 1) mut (pointee (Ends-row .written))) valueLocal ∷ local (sliceTy (tyRef (named 2) mut (pointee (Slot-row .written)))) valueLocal ∷ local (sliceTy (tyRef (named 3) mut (tyInt w32))) valueLocal ∷ local (tyInt w32) valueLocal ∷ local (tyInt w64) valueLocal ∷ local Ask-ty valueLocal ∷ local Limits-ty valueLocal ∷ local (lone (Array (UInt w8) 1 .mir)) memorySlot ∷ local (tyInt w64) valueLocal ∷ local (tyRef erased mut (pointee (Pair-row .written))) valueLocal ∷ local (sliceTy (tyRef erased mut (pointee (Pair-row .written)))) valueLocal ∷ local (tyRef erased mut (pointee (Ends-row .written))) valueLocal ∷ local (tyRef erased mut (pointee (Slot-row .written))) valueLocal ∷ local (sliceTy (tyRef erased mut (pointee (Slot-row .written)))) valueLocal ∷ local (tyRef erased mut (tyInt w32)) valueLocal ∷ local (sliceTy (tyRef erased mut (tyInt w32))) valueLocal ∷ local (tyRef erased mut (pointee (Array (UInt w8) 1 .written))) valueLocal ∷ local (sliceTy (tyRef erased mut (tyInt w8))) valueLocal ∷ []
 
 locals-are : code.function .locals ≡ locals
 unfolding Ask-ty Limits-ty Reply-ty

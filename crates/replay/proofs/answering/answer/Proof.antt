@@ -6,7 +6,7 @@ use Rattle.replay.proofs.Types.{QCounting, Counting-ty, Counting-typed,
 use Rattle.replay.specs.declared.lists.Counting.{Counting}
 use Rattle.rules.specs.declared.Ends.{Ends}
 use Rattle.replay.specs.declared.lists.Listing.{Listing}
-use Rattle.answers.specs.declared.Order.{Order}
+use Rattle.orders.specs.declared.Order.{Order}
 use Rattle.rules.specs.declared.Pair.{Pair}
 use Rattle.replay.specs.declared.keeping.Place.{Place}
 use Rattle.rules.specs.declared.Reply.{Reply}
@@ -15,12 +15,12 @@ use Rattle.rules.specs.Slots as Slots
 use Rattle.replay.specs.Kept as Kept
 use Rattle.replay.specs.Answer as Answer
 use Rattle.replay.specs.Serving as Serving
-use Rattle.answers.specs.Ordered as Ordered
+use Rattle.orders.specs.Ordered as Ordered
 use Rattle.answers.specs.Plain as Plain
 use Rattle.text.specs.Out as Out
-use Rattle.answers.proofs.order_of as order-of
-use Rattle.answers.proofs.order_of.Symbol as #order-of
-use Rattle.answers.proofs.order_of.Met as order-of-thm
+use Rattle.orders.proofs.order_of as order-of
+use Rattle.orders.proofs.order_of.Symbol as #order-of
+use Rattle.orders.proofs.order_of.Met as order-of-thm
 use Rattle.replay.proofs.carrying.carry as carry
 use Rattle.replay.proofs.carrying.carry.Symbol as #carry
 use Rattle.replay.proofs.carrying.carry.Met as carry-thm
@@ -368,7 +368,7 @@ unfolding code.routine tablesOf
 answer-spec 𝓤 H 𝓜 𝓖 𝓡 =
     entered 𝓤 H (tripleOf 𝓤 H (𝓖 .A) f.signature (f.spec 𝓤 H (𝓖 .A) (𝓜 .mem) (𝓡 .run))) (tables 𝓤 H 𝓜 𝓡 code.env .C) (tables 𝓤 H 𝓜 𝓡 code.env .Λ) #f code.function (code.unfolded 𝓤 H 𝓜 𝓡)
     (met 𝓤 H (𝓖 .A) (𝓜 .mem) (𝓡 .run) (givenOf 𝓤 H 𝓜 𝓖) (tablesOf 𝓤 H 𝓜 (tables 𝓤 H 𝓜 𝓡 code.env))
-    (cited 𝓤 H (order-of-ctr 𝓤 H (𝓖 .A) (𝓜 .mem) (𝓡 .run)) 𝓜 𝓡 code.env #order-of.name #order-of.routine code.calls-answers·order-of (order-of-thm.met 𝓤 H 𝓜 𝓖 𝓡))
+    (cited 𝓤 H (order-of-ctr 𝓤 H (𝓖 .A) (𝓜 .mem) (𝓡 .run)) 𝓜 𝓡 code.env #order-of.name #order-of.routine code.calls-orders·order-of (order-of-thm.met 𝓤 H 𝓜 𝓖 𝓡))
     (cited 𝓤 H (carry-ctr 𝓤 H (𝓖 .A) (𝓜 .mem) (𝓡 .run)) 𝓜 𝓡 code.env #carry.name #carry.routine code.calls-replay·carrying·carry (carry-thm.met 𝓤 H 𝓜 𝓖 𝓡))
     (cited 𝓤 H (pair-place-ctr 𝓤 H (𝓖 .A) (𝓜 .mem) (𝓡 .run)) 𝓜 𝓡 code.env #pair-place.name #pair-place.routine code.calls-replay·heads·pair-place (pair-place-thm.met 𝓤 H 𝓜 𝓖 𝓡))
     (cited 𝓤 H (pair-at-ctr 𝓤 H (𝓖 .A) (𝓜 .mem) (𝓡 .run)) 𝓜 𝓡 code.env #pair-at.name #pair-at.routine code.calls-card·pair-at (pair-at-thm.met 𝓤 H 𝓜 𝓖 𝓡))

@@ -1,12 +1,12 @@
 -- `replay::carry` meets its contract: a straight line of calls, and one of two. Written by tools/walk.py from its MIR. Assumes nothing.
 use Rattle.lent.proofs.Bag.{_≡_, refl, sym, ap, some, none, Bool, not, ℕ, _<_, _-_, List, [], _∷_, _++_, lit<, Holds, length, URA, w8, w32, Local, local, valueLocal, tyBool, tyInt, tyRef, named, erased, mut, Val, SProp, ent, emp, id⊢, via, fst∗, GName, Lft, Share, Memory, Routine, Heap, Env, Tables, WpFn, Atoms, fmOf, WpFn-mono, Fun, factI, givenOf, tables, tablesOf, Given, ⋆, atRet, _$_, _∵_, !, qed, whole, sub, look-in, agg, look, init, stop, hop, fld, from, load, lit, addr, of-opd, and-then, no-more, assigns, land, land-last, first, exec, UInt, now, Room, sliceTy, pointee, Contract, Triple, Meets, tripleOf, entered, cited, Plain, Fits, FitsAll, plain-uint, plain-bool, machine, Ref, slice, cell, Loc, Helds, items, pointers, And, After, does, gives, Does, Gives, ended, calls-last, calls-value, meets, envOf, begins, finishes, var}
 use types.Run.{branches}
-use Rattle.replay.proofs.Past.{chosen, passed-over}
+use Rattle.lent.proofs.Chosen.{chosen, passed-over}
 use Rattle.replay.proofs.Types.{QAsk, Ask-ty, Ask-typed, Ends-row, QLimits, Limits-ty, Limits-typed, QOrder, Order-ty, Order-typed, Pair-row, QPlace, Place-ty, Place-typed, QReply, Reply-ty, Reply-typed, Slot-row}
 use Rattle.engine.specs.declared.Ask.{Ask}
 use Rattle.rules.specs.declared.Ends.{Ends}
 use Rattle.card.specs.declared.Limits.{Limits}
-use Rattle.answers.specs.declared.Order.{Order}
+use Rattle.orders.specs.declared.Order.{Order}
 use Rattle.rules.specs.declared.Pair.{Pair}
 use Rattle.replay.specs.declared.keeping.Place.{Place}
 use Rattle.rules.specs.declared.Reply.{Reply}
@@ -18,9 +18,9 @@ use Rattle.replay.specs.Serving as Serving
 use Rattle.replay.proofs.heads.is_a as is-a
 use Rattle.replay.proofs.heads.is_a.Symbol as #is-a
 use Rattle.replay.proofs.heads.is_a.Met as is-a-thm
-use Rattle.replay.proofs.heads.limits_of as limits-of
-use Rattle.replay.proofs.heads.limits_of.Symbol as #limits-of
-use Rattle.replay.proofs.heads.limits_of.Met as limits-of-thm
+use Rattle.replay.proofs.heads.limits_now as limits-now
+use Rattle.replay.proofs.heads.limits_now.Symbol as #limits-now
+use Rattle.replay.proofs.heads.limits_now.Met as limits-now-thm
 use Rattle.replay.proofs.heads.pair_of as pair-of
 use Rattle.replay.proofs.heads.pair_of.Symbol as #pair-of
 use Rattle.replay.proofs.heads.pair_of.Met as pair-of-thm
@@ -100,8 +100,8 @@ module _ {M : Type 1} (𝓤 : URA M) (H : Heap 𝓤) (A : Atoms 𝓤) (mem : Mem
   abbrev is-a-ctr : Contract 𝓤
   is-a-ctr = tripleOf 𝓤 H A is-a.signature (is-a.spec 𝓤 H A mem run)
 
-  abbrev limits-of-ctr : Contract 𝓤
-  limits-of-ctr = tripleOf 𝓤 H A limits-of.signature (limits-of.spec 𝓤 H A mem run)
+  abbrev limits-now-ctr : Contract 𝓤
+  limits-now-ctr = tripleOf 𝓤 H A limits-now.signature (limits-now.spec 𝓤 H A mem run)
 
   abbrev pair-of-ctr : Contract 𝓤
   pair-of-ctr = tripleOf 𝓤 H A pair-of.signature (pair-of.spec 𝓤 H A mem run)
@@ -115,7 +115,7 @@ module _ {M : Type 1} (𝓤 : URA M) (H : Heap 𝓤) (A : Atoms 𝓤) (mem : Mem
   abbrev restart-ctr : Contract 𝓤
   restart-ctr = tripleOf 𝓤 H A restart.signature (restart.spec 𝓤 H A mem run)
 
-  module _ (W : Given 𝓤 H A) (𝓣 : Tables 𝓤 H) (known-is-a : Triple 𝓤 (𝓣 .C #is-a.name) is-a-ctr) (known-limits-of : Triple 𝓤 (𝓣 .C #limits-of.name) limits-of-ctr) (known-pair-of : Triple 𝓤 (𝓣 .C #pair-of.name) pair-of-ctr) (known-ask-of : Triple 𝓤 (𝓣 .C #ask-of.name) ask-of-ctr) (known-call : Triple 𝓤 (𝓣 .C #call.name) call-ctr) (known-restart : Triple 𝓤 (𝓣 .C #restart.name) restart-ctr) where
+  module _ (W : Given 𝓤 H A) (𝓣 : Tables 𝓤 H) (known-is-a : Triple 𝓤 (𝓣 .C #is-a.name) is-a-ctr) (known-limits-now : Triple 𝓤 (𝓣 .C #limits-now.name) limits-now-ctr) (known-pair-of : Triple 𝓤 (𝓣 .C #pair-of.name) pair-of-ctr) (known-ask-of : Triple 𝓤 (𝓣 .C #ask-of.name) ask-of-ctr) (known-call : Triple 𝓤 (𝓣 .C #call.name) call-ctr) (known-restart : Triple 𝓤 (𝓣 .C #restart.name) restart-ctr) where
     module _ (b0 o0 : ℕ) (γ0 : GName) (κ0 : Lft) (q0 : Share) (x0 : List Pair) (b1 o1 : ℕ) (γ1 : GName) (κ1 : Lft) (q1 : Share) (x1 : Ends) (b2 o2 : ℕ) (γ2 : GName) (κ2 : Lft) (q2 : Share) (x2 : List Slot) (b3 o3 : ℕ) (γ3 : GName) (κ3 : Lft) (q3 : Share) (x3 : List ℕ) (b4 o4 : ℕ) (γ4 : GName) (κ4 : Lft) (q4 : Share) (x4 : List ℕ) (a0 : Order) (a1 : Place) (room0 : Room (Pair-row) (length x0)) (room2 : Room (Slot-row) (length x2)) (room3 : Room (UInt w32) (length x3)) (room4 : Room (UInt w8) (length x4)) (g0 : Fits QOrder a0) (g1 : Fits QPlace a1) where
       abbrev l0 : Loc
       l0 = record { b = b0; o = o0; n = length x0; γ = γ0; κ = κ0; q = q0 }
@@ -142,9 +142,9 @@ module _ {M : Type 1} (𝓤 : URA M) (H : Heap 𝓤) (A : Atoms 𝓤) (mem : Mem
       unfolding val-1
       call-1 fits = gives 𝓤 H A W (𝓣 .C) (fmOf 𝓤 H (W .laws) 𝓣) #is-a.name ((plain-uint w32) ∷ QOrder ∷ []) plain-bool (is-a.clauses 𝓤 H A mem run) known-is-a (1, (a0, tt)) fits tt (id⊢ 𝓤 _) (λ w. w ≡ (val-1 x0 x1 x2 x3 x4 a0 a1)) (λ w ws. id⊢ 𝓤 _)
 
-      call-2 : FitsAll (QPlace ∷ []) (a1, tt) → Gives 𝓤 H A (𝓣 .C) #limits-of.name (machine (QPlace ∷ []) (a1, tt)) QLimits (λ w. w ≡ (val-2 x0 x1 x2 x3 x4 a0 a1))
+      call-2 : FitsAll (QPlace ∷ []) (a1, tt) → Gives 𝓤 H A (𝓣 .C) #limits-now.name (machine (QPlace ∷ []) (a1, tt)) QLimits (λ w. w ≡ (val-2 x0 x1 x2 x3 x4 a0 a1))
       unfolding val-2
-      call-2 fits = gives 𝓤 H A W (𝓣 .C) (fmOf 𝓤 H (W .laws) 𝓣) #limits-of.name (QPlace ∷ []) QLimits (limits-of.clauses 𝓤 H A mem run) known-limits-of (a1, tt) fits tt (id⊢ 𝓤 _) (λ w. w ≡ (val-2 x0 x1 x2 x3 x4 a0 a1)) (λ w ws. id⊢ 𝓤 _)
+      call-2 fits = gives 𝓤 H A W (𝓣 .C) (fmOf 𝓤 H (W .laws) 𝓣) #limits-now.name (QPlace ∷ []) QLimits (limits-now.clauses 𝓤 H A mem run) known-limits-now (a1, tt) fits tt (id⊢ 𝓤 _) (λ w. w ≡ (val-2 x0 x1 x2 x3 x4 a0 a1)) (λ w ws. id⊢ 𝓤 _)
 
       call-3 : FitsAll (QOrder ∷ []) (a0, tt) → Gives 𝓤 H A (𝓣 .C) #pair-of.name (machine (QOrder ∷ []) (a0, tt)) (plain-uint w32) (λ w. w ≡ (val-3 x0 x1 x2 x3 x4 a0 a1))
       unfolding val-3
@@ -222,7 +222,7 @@ carry-spec 𝓤 H 𝓜 𝓖 𝓡 =
     entered 𝓤 H (tripleOf 𝓤 H (𝓖 .A) f.signature (f.spec 𝓤 H (𝓖 .A) (𝓜 .mem) (𝓡 .run))) (tables 𝓤 H 𝓜 𝓡 code.env .C) (tables 𝓤 H 𝓜 𝓡 code.env .Λ) #f code.function (code.unfolded 𝓤 H 𝓜 𝓡)
     (met 𝓤 H (𝓖 .A) (𝓜 .mem) (𝓡 .run) (givenOf 𝓤 H 𝓜 𝓖) (tablesOf 𝓤 H 𝓜 (tables 𝓤 H 𝓜 𝓡 code.env))
     (cited 𝓤 H (is-a-ctr 𝓤 H (𝓖 .A) (𝓜 .mem) (𝓡 .run)) 𝓜 𝓡 code.env #is-a.name #is-a.routine code.calls-replay·heads·is-a (is-a-thm.met 𝓤 H 𝓜 𝓖 𝓡))
-    (cited 𝓤 H (limits-of-ctr 𝓤 H (𝓖 .A) (𝓜 .mem) (𝓡 .run)) 𝓜 𝓡 code.env #limits-of.name #limits-of.routine code.calls-replay·heads·limits-of (limits-of-thm.met 𝓤 H 𝓜 𝓖 𝓡))
+    (cited 𝓤 H (limits-now-ctr 𝓤 H (𝓖 .A) (𝓜 .mem) (𝓡 .run)) 𝓜 𝓡 code.env #limits-now.name #limits-now.routine code.calls-replay·heads·limits-now (limits-now-thm.met 𝓤 H 𝓜 𝓖 𝓡))
     (cited 𝓤 H (pair-of-ctr 𝓤 H (𝓖 .A) (𝓜 .mem) (𝓡 .run)) 𝓜 𝓡 code.env #pair-of.name #pair-of.routine code.calls-replay·heads·pair-of (pair-of-thm.met 𝓤 H 𝓜 𝓖 𝓡))
     (cited 𝓤 H (ask-of-ctr 𝓤 H (𝓖 .A) (𝓜 .mem) (𝓡 .run)) 𝓜 𝓡 code.env #ask-of.name #ask-of.routine code.calls-replay·heads·ask-of (ask-of-thm.met 𝓤 H 𝓜 𝓖 𝓡))
     (cited 𝓤 H (call-ctr 𝓤 H (𝓖 .A) (𝓜 .mem) (𝓡 .run)) 𝓜 𝓡 code.env #call.name #call.routine code.calls-card·call (call-thm.met 𝓤 H 𝓜 𝓖 𝓡))

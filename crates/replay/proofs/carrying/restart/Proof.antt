@@ -1,10 +1,10 @@
 -- `replay::restart` meets its contract: a straight line of calls, and one of two. Written by tools/walk.py from its MIR. Assumes nothing.
 use Rattle.lent.proofs.Bag.{_≡_, refl, sym, ap, some, Bool, not, ℕ, _<_, _-_, List, [], _∷_, _++_, lit<, Holds, length, URA, w32, Local, local, valueLocal, tyBool, tyRef, named, erased, mut, Val, SProp, ent, emp, id⊢, via, fst∗, GName, Lft, Share, Memory, Routine, Heap, Env, Tables, WpFn, Atoms, fmOf, WpFn-mono, Fun, factI, givenOf, tables, tablesOf, Given, ⋆, atRet, _$_, _∵_, !, qed, whole, sub, look-in, agg, look, init, stop, hop, fld, from, load, lit, addr, of-opd, and-then, no-more, assigns, land, land-last, first, exec, now, Room, sliceTy, pointee, Contract, Triple, Meets, tripleOf, entered, cited, Plain, Fits, FitsAll, plain-uint, plain-bool, machine, Ref, slice, cell, Loc, Helds, items, pointers, And, After, does, gives, Does, Gives, ended, calls-last, calls-value, calls-value-last, meets, envOf, begins, finishes, var}
 use types.Run.{branches}
-use Rattle.replay.proofs.Past.{chosen, passed-over}
+use Rattle.lent.proofs.Chosen.{chosen, passed-over}
 use Rattle.replay.proofs.Types.{Ends-row, QOrder, Order-ty, Order-typed, Pair-row, QReply, Reply-ty, Reply-typed, Slot-row}
 use Rattle.rules.specs.declared.Ends.{Ends}
-use Rattle.answers.specs.declared.Order.{Order}
+use Rattle.orders.specs.declared.Order.{Order}
 use Rattle.rules.specs.declared.Pair.{Pair}
 use Rattle.rules.specs.declared.Reply.{Reply}
 use Rattle.rules.specs.declared.Slot.{Slot}

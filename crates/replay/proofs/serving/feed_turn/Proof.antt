@@ -1,7 +1,7 @@
 -- `replay::feed_turn` meets its contract: a straight line of calls, and one of two. Written by tools/walk.py from its MIR. Assumes nothing.
 use Rattle.lent.proofs.Bag.{_≡_, refl, sym, ap, some, none, Bool, not, ℕ, _-_, List, [], _∷_, _++_, Holds, length, getD, set, URA, w8, w32, Local, local, valueLocal, tyBool, tyInt, tyRef, named, erased, mut, Val, SProp, ent, emp, id⊢, via, fst∗, GName, Lft, Share, Memory, Routine, Heap, Env, Tables, WpFn, Atoms, fmOf, WpFn-mono, Fun, factI, givenOf, tables, tablesOf, Given, ⋆, atRet, _$_, _∵_, !, qed, move, whole, sub, look-in, agg, look, init, stop, hop, fld, from, load, addr, of-opd, and-then, no-more, assigns, land, land-last, first, exec, UInt, now, Room, sliceTy, pointee, Contract, Triple, Meets, tripleOf, entered, cited, Plain, Fits, FitsAll, plain-uint, plain-bool, machine, Ref, slice, cell, Loc, Helds, items, pointers, And, After, does, gives, Does, Gives, ended, calls, calls-last, calls-value, meets, envOf, begins, finishes, var}
 use types.Run.{branches}
-use Rattle.replay.proofs.Past.{chosen, passed-over}
+use Rattle.lent.proofs.Chosen.{chosen, passed-over}
 use Rattle.replay.proofs.Types.{Ends-row, Pair-row, QPlace, Place-ty, Place-typed, Slot-row}
 use Rattle.rules.specs.declared.Ends.{Ends}
 use Rattle.rules.specs.declared.Pair.{Pair}
