@@ -5,6 +5,7 @@ use mathlib.Core.List.{List, [], _∷_, _++_}
 use Prim.Native.Nat.{ℕ, zero, suc, _+_, _-_, _^_, _≤_, _<_, min}
 use native.Mathlib.Omega.{arith}
 use lib.ListN.{length, getD, set, take, drop, length-set}
+use lib.Seq.{take-suc-set}
 use borrow.Author.Tests.{lt-ltb}
 use Rattle.refusal.specs.Choice.{if_then_else_, Each}
 use Rattle.refusal.proofs.Loop.{loop-more}
@@ -22,11 +23,6 @@ drop-more : (k : ℕ) (xs : List ℕ) → drop (suc k) xs ≡ drop 1 (drop k xs)
 drop-more zero xs = refl
 drop-more (suc k) [] = refl
 drop-more (suc k) (x ∷ xs) = drop-more k xs
-
-take-set : (k : ℕ) (xs : List ℕ) (b : ℕ) → k < length xs → take (suc k) (set xs k b) ≡ take k xs ++ (b ∷ [])
-take-set k [] b l = absurd (omega (arith, l))
-take-set zero (x ∷ xs) b l = refl
-take-set (suc k) (x ∷ xs) b l = ap (λ (ys : List ℕ). x ∷ ys) (take-set k xs b (omega (arith, l)))
 
 join-one : (xs ys : List ℕ) (b : ℕ) → (xs ++ (b ∷ [])) ++ ys ≡ xs ++ (b ∷ ys)
 join-one [] ys b = refl
@@ -55,7 +51,7 @@ kept-line (b ∷ l) d h =
     let more : keptIn b d .place .kept ≡ suc k = ap (λ (t : Bool). if t then k + 1 else k) (lt-ltb k (length (d .line)) room) ∙ omega arith in
     kept-line l (keptIn b d) (omega (arith, h, more, length-set (d .line) k b))
     ∙ ap (λ (n : ℕ). take n (set (d .line) k b) ++ l) more
-    ∙ ap (λ (ys : List ℕ). ys ++ l) (take-set k (d .line) b room)
+    ∙ ap (λ (ys : List ℕ). ys ++ l) (take-suc-set (d .line) k b room)
     ∙ join-one (take k (d .line)) l b
 
 module _ (input : List ℕ) where

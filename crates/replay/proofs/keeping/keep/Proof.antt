@@ -3,7 +3,7 @@ use Prim.Native.Nat.{ℕ}
 use lib.ListN.{length-set}
 use denote.Ref.{now}
 use Rattle.replay.specs.Kept.{keptBy}
-use Rattle.replay.proofs.Past.{set-past}
+use lib.Seq.{set-out}
 use borrow.Author.Needs.{needs}
 use Rattle.replay.proofs.keeping.keep.Statement.{statement}
 use Rattle.replay.proofs.keeping.keep.Tie as tie
@@ -24,7 +24,7 @@ kept-by-requires-2 : tie.Need-kept-by-requires-2
 kept-by-requires-2 c κs = search needs
 
 returns-2 : tie.Need-returns-2
-returns-2 c = (c .kept-by2 .ensures, sym (set-past (now (c .before .before .before .args .line)) (c .before .before .before .args .w .kept) (c .before .before .before .args .b) (c .before .if1 .left)))
+returns-2 c = (c .kept-by2 .ensures, sym (set-out (now (c .before .before .before .args .line)) (c .before .before .before .args .w .kept) (c .before .before .before .args .b) (c .before .if1 .left)))
 
 pub keep-spec : {M : Type 1} → statement M
 keep-spec =
