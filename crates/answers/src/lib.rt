@@ -1,4 +1,6 @@
 // The text that each answer is. No table is touched here: the program lends them to the card, and puts together what is shown of them.
+#![tactic(auto)]
+
 mod buffers;
 mod fields;
 mod header;

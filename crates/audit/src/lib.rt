@@ -1,4 +1,6 @@
 // The audit, by value: what is carried from slot to slot and from pair to pair, and one step of each. No table is touched here.
+#![tactic(auto)]
+
 mod links;
 mod made;
 mod messages;
@@ -19,7 +21,7 @@ use rules::carried::{Tally, Trail, Walk};
 use rules::{Ends, Pair, Queue, Slot, Standing};
 
 // One pair's queue on the way: how many slots are left to look at, whether the pair passed so far, and what the walk carries.
-#[derive(Drop)]
+#[derive(Clone, Copy)]
 pub struct Following {
     pub left: u32,
     pub passed: bool,
@@ -28,21 +30,21 @@ pub struct Following {
 }
 
 // The free queue on the way: its links are all that is looked at.
-#[derive(Drop)]
+#[derive(Clone, Copy)]
 pub struct Tracing {
     pub left: u32,
     pub trail: Trail,
 }
 
 // All pairs on the way: how many are left, and the tally of those before.
-#[derive(Drop)]
+#[derive(Clone, Copy)]
 pub struct Auditing {
     pub left: u32,
     pub tally: Tally,
 }
 
 // Whether the audit passed, and how many slots the open pairs claim.
-#[derive(Drop)]
+#[derive(Clone, Copy)]
 pub struct Audited {
     pub ok: bool,
     pub claimed: u32,

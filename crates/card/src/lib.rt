@@ -1,5 +1,7 @@
 // The host interface: every call over the tables that a host lends. Each function is thin: it follows links, reads or writes one record, or passes the
 // tables on; what is decided is decided by value below. So no table is ever copied, and a call writes only the records that change.
+#![tactic(auto)]
+
 mod acting;
 mod asking;
 mod auditing;
@@ -19,20 +21,20 @@ use rules::{Ends, Reply};
 use walks::{Emitting, Joining, Leaving};
 
 // As much of the two lent buffers as a call may use.
-#[derive(Drop)]
+#[derive(Clone, Copy)]
 pub struct Limits {
     pub numbers: usize,
     pub bytes: usize,
 }
 
 // Records on the way to a fresh start: how many are left, from the last to the first.
-#[derive(Drop)]
+#[derive(Clone, Copy)]
 pub struct Filling {
     pub left: u32,
 }
 
 // What a fresh start does: so many pairs and slots are written, or none, and the ends and the answer.
-#[derive(Drop)]
+#[derive(Clone, Copy)]
 pub struct Started {
     pub pairs: Filling,
     pub slots: Filling,
@@ -41,7 +43,7 @@ pub struct Started {
 }
 
 // What the three walks of a call come to.
-#[derive(Drop)]
+#[derive(Clone, Copy)]
 pub struct Walked {
     pub leaving: Leaving,
     pub joining: Joining,

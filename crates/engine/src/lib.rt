@@ -1,5 +1,7 @@
 // The requester's decisions, by value: one function for each, on records alone. No table is touched here: a card lends one slot or one pair at a time, and
 // a refused call becomes a walk of no steps.
+#![tactic(auto)]
+
 mod asking;
 mod beginning;
 mod planning;
@@ -17,7 +19,7 @@ pub use settling::settle;
 use walks::{Emitting, Joining, Leaving};
 
 // What is asked of one pair.
-#[derive(Drop)]
+#[derive(Clone, Copy)]
 pub enum Ask {
     Open { settings: Settings, first: u32 },
     Post { post: Post },
@@ -29,7 +31,7 @@ pub enum Ask {
 }
 
 // The packet that a scan looks for.
-#[derive(Drop)]
+#[derive(Clone, Copy)]
 pub enum Seek {
     Nothing,
     // A read.
@@ -42,14 +44,14 @@ pub enum Seek {
     Covering(u32),
 }
 
-#[derive(Drop)]
+#[derive(Clone, Copy)]
 pub struct Search {
     pub seek: Seek,
     pub found: Found,
 }
 
 // A pair's queue on the way: how many slots are left to look at, the next of them, and the two packets that a call may ask for.
-#[derive(Drop)]
+#[derive(Clone, Copy)]
 pub struct Scan {
     pub left: u32,
     pub at: u32,
@@ -59,7 +61,7 @@ pub struct Scan {
 }
 
 // What a call will answer, but for what the walks count.
-#[derive(Drop)]
+#[derive(Clone, Copy)]
 pub enum Told {
     Refused(u8),
     Answered { answer: Answer, place: u32 },
@@ -68,7 +70,7 @@ pub enum Told {
 }
 
 // What a call is to do: its answer, how the pair will stand (but for X and H after an emission), and the three walks, of which at most one has steps.
-#[derive(Drop)]
+#[derive(Clone, Copy)]
 pub struct Plan {
     pub told: Told,
     pub standing: Standing,
@@ -78,7 +80,7 @@ pub struct Plan {
 }
 
 // What is written back, and the answer.
-#[derive(Drop)]
+#[derive(Clone, Copy)]
 pub struct Settled {
     pub pair: Pair,
     pub ends: Ends,

@@ -1,4 +1,6 @@
 // The calls for a driver in C: the card's, with answers and posts as flat records of numbers. include/kamusseori.h declares them.
+#![tactic(auto)]
+
 mod calls;
 mod flat;
 
@@ -9,7 +11,7 @@ pub use calls::{
 
 // An answer: the refusal's number or 0; the word; messages completed, a post's first PSN or an emission's count; a response's place.
 #[repr(C)]
-#[derive(Drop)]
+#[derive(Clone, Copy)]
 pub struct Said {
     pub refusal: u32,
     pub answer: u32,
@@ -19,7 +21,7 @@ pub struct Said {
 
 // A post as C has it: its two tests are numbers, since a C host may lend any.
 #[repr(C)]
-#[derive(Drop)]
+#[derive(Clone, Copy)]
 pub struct Posted {
     pub kind: u32,
     pub immediate: u32,

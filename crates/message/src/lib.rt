@@ -1,4 +1,6 @@
 // A message's sizes, packets and ranges, by value: document 01's split and its ranges for 3, computed. Every function takes any numbers.
+#![tactic(auto)]
+
 mod capping;
 mod opcodes;
 mod packets;
@@ -21,7 +23,7 @@ pub use sizes::{length_at, mtu, packets_for, psns_for, slots_for, timeout};
 pub use straight::{both, either, less, less_wide, pick, smaller, when, when_wide};
 
 // The card's sizes: the definitions' `small`.
-#[derive(Drop)]
+#[derive(Clone, Copy)]
 pub struct Card;
 
 impl Card {
@@ -35,7 +37,7 @@ impl Card {
 }
 
 // A pair's state, as its record has it.
-#[derive(Drop)]
+#[derive(Clone, Copy)]
 pub struct State;
 
 impl State {

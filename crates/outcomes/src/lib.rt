@@ -1,4 +1,6 @@
 // What an acknowledgement, a read response or a timer step makes of a pair, by value. The packets that the rules ask for are given: a scan has found them.
+#![tactic(auto)]
+
 mod answering;
 mod releasing;
 mod timing;
@@ -9,7 +11,7 @@ use rules::Packet;
 pub use timing::timed;
 
 // The first packet of a kind in a queue: how many are left from it on (0 where there is none), its slot, and what it says.
-#[derive(Drop)]
+#[derive(Clone, Copy)]
 pub struct Found {
     pub left: u32,
     pub slot: u32,

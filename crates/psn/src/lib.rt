@@ -1,11 +1,13 @@
 // The packet number: 24 bits that run around. Its width, its count and its order belong to it, and
 // no other crate takes a remainder by 16,777,216.
+#![tactic(auto)]
+
 ghost use Rattle.std.specs.Prelude.{◌≡◌};
 ghost use Rattle.psn.specs.Psn.{distance, plus, next, before};
 
 // Records hold a packet number as a plain 32-bit number, since a host may lend any bytes: every
 // function takes any such number and counts modulo 2^24.
-#[derive(Drop)]
+#[derive(Clone, Copy)]
 pub struct Psn;
 
 impl Psn {

@@ -1,5 +1,7 @@
 // Document 01's refusal numbers, a sentence each. A refused call gives its number and changes nothing.
-#[derive(Drop)]
+#![tactic(auto)]
+
+#[derive(Clone, Copy)]
 pub struct Refusal;
 
 impl Refusal {

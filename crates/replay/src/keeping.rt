@@ -8,7 +8,7 @@ use rules::Ends;
 const HALF: usize = 32768;
 
 // Where the reading stands.
-#[derive(Drop)]
+#[derive(Clone, Copy)]
 pub struct Place {
     // Turns left: a proved loop has to end, and nothing says that the input does, so they are counted down from a number that no run uses up.
     pub turns: u64,

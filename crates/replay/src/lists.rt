@@ -12,14 +12,14 @@ use orders::Order;
 use rules::{Ends, Pair, Slot};
 
 // How many pairs are left, and how many slots those before hold.
-#[derive(Drop)]
+#[derive(Clone, Copy)]
 pub struct Counting {
     pub left: u32,
     pub held: u32,
 }
 
 // How many slots are left, the next of them, and where its text goes; a packet that is held is written out in full.
-#[derive(Drop)]
+#[derive(Clone, Copy)]
 pub struct Listing {
     pub left: u32,
     pub at: u32,

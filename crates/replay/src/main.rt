@@ -1,4 +1,6 @@
 // Reads a trace on standard input, a call a line, carries each call out on one card's tables, and writes what each line answers.
+#![tactic(auto)]
+
 mod answering;
 mod carrying;
 mod heads;

@@ -1,7 +1,7 @@
 // What the audit carries: from slot to slot of one pair's queue, and from queue to queue.
 
 // The links: the slot to look at next, the one looked at last, and whether all were in the table.
-#[derive(Drop)]
+#[derive(Clone, Copy)]
 pub struct Trail {
     pub at: u32,
     pub last: u32,
@@ -9,7 +9,7 @@ pub struct Trail {
 }
 
 // The order: the place that the next record must start at, whether X and H stand at a record's start, and whether all fitted.
-#[derive(Drop)]
+#[derive(Clone, Copy)]
 pub struct Course {
     pub place: u64,
     pub x: bool,
@@ -18,7 +18,7 @@ pub struct Course {
 }
 
 // A Send or Write whose last record has not come: its post as far as the records tell, its first PSN, and how many records there were.
-#[derive(Drop)]
+#[derive(Clone, Copy)]
 pub struct Begun {
     pub whole: bool,
     pub kind: u32,
@@ -31,7 +31,7 @@ pub struct Begun {
 }
 
 // The messages: where among them a record stands.
-#[derive(Drop)]
+#[derive(Clone, Copy)]
 pub enum Stage {
     Start,
     Between,
@@ -40,7 +40,7 @@ pub enum Stage {
 }
 
 // One queue: the three together.
-#[derive(Drop)]
+#[derive(Clone, Copy)]
 pub struct Walk {
     pub trail: Trail,
     pub course: Course,
@@ -49,7 +49,7 @@ pub struct Walk {
 
 // All queues: the last slots of those that hold something, as a set (bit i % 64 of word i / 64), how many slots they hold, how many are claimed, and whether all passed.
 // Four words are for 256 slots; the definitions ask for one word for each 64 slots.
-#[derive(Drop)]
+#[derive(Clone, Copy)]
 pub struct Tally {
     pub words: [u64; 4],
     pub held: u32,

@@ -1,5 +1,7 @@
 // The trace's text: what a line asks, and how an answer is written. The contracts cite specs/, which
 // follows the trace protocol sentence by sentence.
+#![tactic(auto)]
+
 mod calls;
 mod decimal;
 mod hex;
@@ -13,14 +15,14 @@ pub use print::{put, put_decimal};
 pub use words::{argument, front};
 
 // What a word is that stands where a number should.
-#[derive(Drop)]
+#[derive(Clone, Copy)]
 pub enum Number {
     Is(u64),
     Not,
 }
 
 // What a line asks for.
-#[derive(Drop)]
+#[derive(Clone, Copy)]
 pub enum Ask {
     Nothing,
     Unread,
@@ -40,14 +42,14 @@ pub enum Ask {
 }
 
 // The call and its numbers, in order, with zeros behind them.
-#[derive(Drop)]
+#[derive(Clone, Copy)]
 pub struct Parsed {
     pub ask: Ask,
     pub args: [u64; 11],
 }
 
 // What follows a call's first word.
-#[derive(Drop)]
+#[derive(Clone, Copy)]
 pub enum Follow {
     // So many numbers.
     Numbers(usize),
@@ -58,21 +60,21 @@ pub enum Follow {
     Unknown,
 }
 
-#[derive(Drop)]
+#[derive(Clone, Copy)]
 pub struct Row {
     pub ask: Ask,
     pub follow: Follow,
 }
 
 // How many bytes a HEX has put into a buffer.
-#[derive(Drop)]
+#[derive(Clone, Copy)]
 pub enum Filled {
     Bytes(usize),
     None,
 }
 
 // Where a word stands in a line: from `start` up to, not including, `end`.
-#[derive(Drop)]
+#[derive(Clone, Copy)]
 pub struct Span {
     pub start: usize,
     pub end: usize,

@@ -1,5 +1,7 @@
 // The three walks that act, by value: slots leave a pair for the free queue's end, slots of the free queue's front join a pair, packets go out. One step of
 // each, on the slot that a card lends; what is written beside it is numbers and bytes alone.
+#![tactic(auto)]
+
 mod acting;
 mod emission;
 
@@ -8,7 +10,7 @@ pub use emission::{RECORD_BYTES, emit_record, emit_step};
 use rules::{Post, Settings, Standing};
 
 // Slots on their way from the front of one queue to the end of another: how many are left, the next of them, and the first and last of the queue they join.
-#[derive(Drop)]
+#[derive(Clone, Copy)]
 pub struct Moving {
     pub left: u32,
     pub at: u32,
@@ -17,7 +19,7 @@ pub struct Moving {
 }
 
 // Slots that leave a pair: how many of those left are released (the others are flushed), and how many messages were completed.
-#[derive(Drop)]
+#[derive(Clone, Copy)]
 pub struct Leaving {
     pub moving: Moving,
     pub released: u32,
@@ -25,7 +27,7 @@ pub struct Leaving {
 }
 
 // Slots that join a pair with a post's packets: how many there are, and the first PSN.
-#[derive(Drop)]
+#[derive(Clone, Copy)]
 pub struct Joining {
     pub moving: Moving,
     pub total: u32,
@@ -35,7 +37,7 @@ pub struct Joining {
 }
 
 // Packets that go out: how many are left, how many there are, the next slot, and where the last of them ended.
-#[derive(Drop)]
+#[derive(Clone, Copy)]
 pub struct Emitting {
     pub left: u32,
     pub total: u32,

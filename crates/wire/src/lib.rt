@@ -1,4 +1,6 @@
 // The header layer: a header's fields to bytes and back. It knows layouts and opcodes, and nothing of pairs.
+#![tactic(auto)]
+
 mod opcode;
 mod reader;
 mod writer;
@@ -8,7 +10,7 @@ pub use reader::read;
 pub use writer::write;
 
 // A header's fields by value; those that its opcode lacks are not written and read as 0.
-#[derive(Drop)]
+#[derive(Clone, Copy)]
 pub struct Header {
     pub opcode: u8,
     pub pad: u8,
@@ -24,7 +26,7 @@ pub struct Header {
 }
 
 // How many of the bytes the header takes, or the refusal's number.
-#[derive(Drop)]
+#[derive(Clone, Copy)]
 pub enum Size {
     Length(u32),
     Refused(u8),
@@ -33,14 +35,14 @@ pub enum Size {
 // A header goes out as this many bytes, zeros after its own.
 pub const HEADER_BYTES: usize = 32;
 
-#[derive(Drop)]
+#[derive(Clone, Copy)]
 pub struct Written {
     pub size: Size,
     pub bytes: [u8; HEADER_BYTES],
 }
 
 // What a frame holds, with the length of its headers and of its payload, or the refusal's number.
-#[derive(Drop)]
+#[derive(Clone, Copy)]
 pub enum Frame {
     Read {
         header: Header,

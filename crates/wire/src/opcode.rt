@@ -44,7 +44,7 @@ const ROWS: [u32; 18] = [
     BTH + ANSWER + ONLY + AETH, // 17 Acknowledge
 ];
 
-#[derive(Drop)]
+#[derive(Clone, Copy)]
 pub struct Carries {
     // All headers together, in bytes; 0 for an opcode that is not known.
     pub length: u32,

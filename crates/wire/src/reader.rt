@@ -29,7 +29,7 @@ const IMMEDIATE_BYTES: usize = 4;
 
 const MSN_AT: usize = 1;
 
-#[derive(Drop)]
+#[derive(Clone, Copy)]
 struct Bth {
     opcode: u8,
     pad: u8,
@@ -39,14 +39,14 @@ struct Bth {
     psn: u32,
 }
 
-#[derive(Drop)]
+#[derive(Clone, Copy)]
 struct Reth {
     address: u64,
     key: u32,
     length: u32,
 }
 
-#[derive(Drop)]
+#[derive(Clone, Copy)]
 struct Aeth {
     syndrome: u8,
     msn: u32,

@@ -12,7 +12,7 @@ use psn::Psn;
 use refusal::Refusal;
 
 // The bytes written so far, with zeros after them. It goes by value from field to field.
-#[derive(Drop)]
+#[derive(Clone, Copy)]
 struct Out {
     bytes: [u8; HEADER_BYTES],
     at: usize,
