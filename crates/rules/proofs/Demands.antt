@@ -13,7 +13,7 @@ use Rattle.rules.specs.declared.Reply.TheVariants.{Refused, Answered, First, Cou
 use Rattle.rules.specs.Card.{Card}
 use Rattle.rules.specs.Account.{Side}
 use Rattle.rules.specs.Outcome.{Departure}
-use Rattle.rules.specs.Slots.{Tables, queue, side, sides, fresh}
+use Rattle.rules.specs.Slots.{Tables, queue, side, fresh}
 use Rattle.rules.specs.Audit.{Audit}
 use Rattle.rules.specs.Calls.{all_closed, call}
 use Rattle.rules.specs.Demands.{Harmless, Audits, Demand1, Starts, Demand2, Demand3}

@@ -1,5 +1,5 @@
 -- A fresh start passes the audit, and all its sides are closed.
-use mathlib.Core.Path.{◌≡◌, refl, ap, ◌∙◌}
+use mathlib.Core.Path.{◌≡◌, refl, sym, ap, subst, ◌∙◌}
 use mathlib.Core.List.{List, [], ◌∷◌, map, append-nil}
 use Prim.Native.Nat.{ℕ, zero, suc, ◌+◌, ◌≤◌, ◌<◌}
 use native.Mathlib.Omega.{arith}
@@ -12,7 +12,7 @@ use Rattle.rules.specs.declared.Slot.{Slot}
 use Rattle.rules.specs.Card.{Card}
 use Rattle.rules.specs.Account.{Side, no_side}
 use Rattle.rules.specs.Message.{from}
-use Rattle.rules.specs.Slots.{no_pair, no_slot, pair_at, spelled, held_by, free_record, free, queue, queues, concat, times, side_of, sides, Below, ends_of, Spells, fresh}
+use Rattle.rules.specs.Slots.{no_pair, no_slot, pair_at, spelled, held_by, free_record, free, queues, concat, times, side_of, sides, Below, ends_of, Spells, fresh}
 use Rattle.rules.specs.Pool.{claimed, claims}
 use Rattle.rules.specs.Audit.{Whole, Audit}
 use Rattle.rules.specs.Calls.{all_closed}
@@ -31,7 +31,9 @@ distinct_from : (a n : ℕ) → Distinct (from a n)
 distinct_from a zero i = omega arith
 distinct_from a (suc n) i =
     by-test (eqb i a)
-    (λ e. rw (eqb-true i a e) (omega (arith, times-same a (from (suc a) n), times-from-low a (suc a) n (omega arith))))
+    (λ e.
+    subst (λ (k : ℕ). times k (a ∷ from (suc a) n) ≤ 1) (sym (eqb-true i a e))
+    (omega (arith, times-same a (from (suc a) n), times-from-low a (suc a) n (omega arith))))
     (λ e. omega (arith, times-other i a (from (suc a) n) (eqb-false i a e), distinct_from (suc a) n i))
 
 below-from : (m a n : ℕ) → a + n ≤ m → Below m (from a n)

@@ -107,6 +107,7 @@ module _ (s : Settings) (l : Line) where
     where
       here : (b : Bool) → (b ≡ true) or ⊥ → b ≡ true
       here b (left e) = e
+      here b (right n) = elim n [ ]
   arrived w (p ∷ ps) ok h r = go (arrived (onward l (w.place + span s p) w p) ps refl (omega arith) r.2)
     where
       step : course_step s l w p ≡ onward l (w.place + span s p) w p

@@ -3,7 +3,7 @@ use mathlib.Core.Path.{◌≡◌, sym, ap, ◌∙◌}
 use mathlib.Core.Logic.{◌↔◌}
 use mathlib.Core.Bool.{true}
 use mathlib.Core.List.{List, [], ◌∷◌}
-use Prim.Native.Nat.{ℕ, ◌<◌}
+use Prim.Native.Nat.{ℕ, ◌+◌, ◌<◌}
 use native.Mathlib.Omega.{arith}
 use lib.Dec.{eqb}
 use borrow.Author.Tests.{eqb-true, eqb-false}
@@ -34,7 +34,7 @@ use Rattle.rules.proofs.Passes.Queue.{packets_in, queue-passes}
 module _ (size : Packet → ℕ) (u n : ℕ) where
   runs-low : (o : ℕ) (ps : List Packet) → RunsLow size u o ps n → Each (λ p. p.psn < psns) ps
   runs-low o [] r = tt
-  runs-low o (p ∷ ps) r = (r.0, runs-low _ ps r.2)
+  runs-low o (p ∷ ps) r = (r.0, runs-low (o + size p) ps r.2)
 
   starts-low : (ps : List Packet) → StartsLow size u ps n → Each (λ p. p.psn < psns) ps
   starts-low [] r = tt

@@ -116,9 +116,9 @@ module _ (s : Settings) (m : Post) (kd : m.kind ≤ 1) (first : ℕ) where
       )
       (made-bare (6 * m.kind + 1) m (post_of w false w.total 0) (plus first i) (m.offset + i * pmtu s) (pmtu s) (bare-middle m.kind kd).0 (bare-middle m.kind kd).1 (sym st.ticket))
 
-  goes_on : Allowed s m → (i : ℕ) (w : Begun) → Stands i w → suc i < n → goes_on s w (packet_at s m first i) ≡ true
+  goes_on_lem : Allowed s m → (i : ℕ) (w : Begun) → Stands i w → suc i < n → goes_on s w (packet_at s m first i) ≡ true
   unfolding goes_on n
-  goes_on allowed i w st h =
+  goes_on_lem allowed i w st h =
       joined (same_self (packet_at s m first i) (middle s w) (middle-at i w st h))
       (lt-ltb (suc w.count) s.ceiling (omega (arith, length-packets s m 0, slots-is s m kd 0, (permitted allowed).room, st.most)))
 
@@ -227,6 +227,6 @@ module _ (s : Settings) (m : Post) (kd : m.kind ≤ 1) (first : ℕ) where
       let e : inner s w (packet_at s m first i) ≡ Between = rw (not-middle i w st (omega arith), last-closes allowed i w st (omega arith)) in
       ap (λ (x : Stage). run s x rest) e
   inner-complete allowed rest (suc j) i w st h =
-      let e : inner s w (packet_at s m first i) ≡ Inside (more w) = rw (goes_on allowed i w st (omega arith)) in
+      let e : inner s w (packet_at s m first i) ≡ Inside (more w) = rw (goes_on_lem allowed i w st (omega arith)) in
       ap (λ (x : Stage). run s x (map (packet_at s m first) (from (suc i) (suc j)) ++ rest)) e
       ∙ inner-complete allowed rest j (suc i) (more w) (stands-more i w st) (omega arith)

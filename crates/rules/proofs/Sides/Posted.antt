@@ -28,6 +28,7 @@ module _ (size : Packet → ℕ) where
   runs_append u o (p ∷ ps) qs n n' r r' = (r.0, r.1, runs_append u (o + size p) ps qs n n' r.2 r')
 
 start-front : (a : ℕ) (ps qs : List Packet) → Start a ps → Start a (ps ++ qs)
+start-front a [] qs s = elim s [ ]
 start-front a (p ∷ ps) qs (left e) = left e
 start-front a (p ∷ ps) qs (right s) = right (start-front a ps qs s)
 

@@ -23,6 +23,7 @@ use Rattle.rules.proofs.Sides.Order.{runs-end, runs-from, starts-of, past_of, sp
 
 -- a record of a run starts no nearer than the run
 pub start-past : (size : Packet → ℕ) (u o n a : ℕ) (ps : List Packet) → RunsLow size u o ps n → Start a ps → o ≤ distance u a
+start-past size u o n a [] r s = elim s [ ]
 start-past size u o n a (p ∷ ps) r (left e) = omega (arith, r.1, ap (distance u) e)
 start-past size u o n a (p ∷ ps) r (right q) = omega (arith, start-past size u (o + size p) n a ps r.2 q)
 

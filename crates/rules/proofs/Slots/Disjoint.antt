@@ -1,5 +1,5 @@
 -- What an audit may test in place of each slot standing once: different last slots, and counts that add up.
-use mathlib.Core.Path.{◌≡◌, refl, sym, ap, ◌∙◌}
+use mathlib.Core.Path.{◌≡◌, refl, sym, ap, subst, ◌∙◌}
 use mathlib.Core.Logic.{◌≢◌}
 use mathlib.Core.List.{List, [], ◌∷◌}
 use Prim.Native.Nat.{ℕ, zero, suc, ◌+◌, ◌≤◌, ◌<◌, suc-le-suc}
@@ -52,7 +52,7 @@ module _ (none : ℕ) (s : List Slot) where
   distinct_of [] h b i = omega arith
   distinct_of (a ∷ l) h b i =
       by-test (eqb i a)
-      (λ e. rw (eqb-true i a e) (omega (arith, times-same a l, once)))
+      (λ e. subst (λ (k : ℕ). times k (a ∷ l) ≤ 1) (sym (eqb-true i a e)) (omega (arith, times-same a l, once)))
       (λ e. omega (arith, times-other i a l (eqb-false i a e), distinct_of l h.1 b.1 i))
     where
       once : times a l ≡ 0

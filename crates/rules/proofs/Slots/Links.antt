@@ -1,5 +1,5 @@
 -- Links and the lists that they spell.
-use mathlib.Core.Path.{◌≡◌, refl, sym, ap, ◌∙◌}
+use mathlib.Core.Path.{◌≡◌, refl, sym, ap, subst, ◌∙◌}
 use mathlib.Core.Logic.{◌≢◌}
 use mathlib.Core.Bool.{true}
 use mathlib.Core.List.{List, [], ◌∷◌, ◌++◌, append-nil}
@@ -168,7 +168,8 @@ module _ (none : ℕ) where
   chain-join e a [] m s d p h = refl
   chain-join e a (b ∷ f) m s d p h =
       let z : List Slot = relinked (last_of none (b ∷ f)) (first_of none m) (chain none m s) in
-      let far : a ≢ last_of none (b ∷ f) = λ q. omega (arith, d a, times-same a (b ∷ f), rw (← q) at (times-last none b f)) in
+      let far : a ≢ last_of none (b ∷ f) =
+      λ q. omega (arith, d a, times-same a (b ∷ f), subst (λ (i : ℕ). 1 ≤ times i (b ∷ f)) (sym q) (times-last none b f)) in
       let there : slot_at z a ≡ slot_at s a =
       link-other _ a _ (chain none m s) far ∙ chain-other m s a (omega (arith, p a, times-same a (b ∷ f))) in
       ap (relinked a b) (chain-join e b f m s (λ i. omega (arith, d i, times-tail i a (b ∷ f))) (λ i. omega (arith, p i, times-tail i a (b ∷ f))) h.1)

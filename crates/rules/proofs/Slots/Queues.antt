@@ -2,7 +2,7 @@
 use mathlib.Core.Path.{◌≡◌, refl, ap, subst}
 use mathlib.Core.Logic.{◌≢◌}
 use mathlib.Core.List.{List, [], ◌∷◌, ◌++◌, map}
-use Prim.Native.Nat.{ℕ, zero, suc, ◌+◌, ◌-◌, ◌≤◌, ◌<◌}
+use Prim.Native.Nat.{ℕ, zero, suc, ◌+◌, ◌≤◌, ◌<◌}
 use native.Mathlib.Omega.{arith}
 use native.Mathlib.Nat.{le_of_suc-le-suc, not-suc-le-zero}
 use lib.Dec.{ltb}
@@ -13,7 +13,7 @@ use Rattle.refusal.proofs.Cases.{by-test}
 use Rattle.rules.specs.declared.Pair.{Pair}
 use Rattle.rules.specs.declared.Slot.{Slot}
 use Rattle.rules.specs.Card.{Card}
-use Rattle.rules.specs.Slots.{Tables, pair_at, held_by, follow, spelled, times, concat, queues, queue, free, Below}
+use Rattle.rules.specs.Slots.{slot_at, Tables, pair_at, held_by, follow, spelled, times, concat, queues, queue, free, Below}
 use Rattle.rules.specs.Audit.{Whole}
 use Rattle.rules.proofs.Slots.Links.{times-append, below-append}
 use Rattle.rules.proofs.Slots.Disjoint.{length-of-once}
@@ -38,7 +38,7 @@ queues-count t = length-map t.pairs (λ (q : Pair). spelled t.slots q.queue)
 
 pub length-follow : (s : List Slot) (at k : ℕ) → length (follow s at k) ≡ k
 length-follow s at zero = refl
-length-follow s at (suc k) = ap suc (length-follow s _ k)
+length-follow s at (suc k) = ap suc (length-follow s (slot_at s at).link k)
 
 -- the queues are as long as the pairs' counts say
 pub length-queues : (s : List Slot) (ps : List Pair) → length (concat (map (λ q. spelled s q.queue) ps)) ≡ held_by ps

@@ -1,8 +1,8 @@
 -- Packets are stored in slots from the free queue.
-use mathlib.Core.Path.{◌≡◌, ap, ◌∙◌, ap₂}
+use mathlib.Core.Path.{◌≡◌, ap, subst, ◌∙◌, ap₂}
 use mathlib.Core.Logic.{◌≢◌}
 use mathlib.Core.List.{List, [], ◌∷◌, ◌++◌, map, map-append}
-use Prim.Native.Nat.{ℕ, ◌+◌, ◌-◌, ◌≤◌, ◌<◌}
+use Prim.Native.Nat.{ℕ, ◌+◌, ◌≤◌, ◌<◌}
 use native.Mathlib.Omega.{arith}
 use lib.ListN.{length, take, drop, take-append-drop, length-append}
 use lib.Seq.{length-take-le}
@@ -113,8 +113,9 @@ module _ (card : Card) (t : Tables) (w : Whole card t) where
         (λ i. omega (arith, rw eq at (pair-and-free card t w p i)))
         (λ i. omega (arith, rw eq at (pair-and-free card t w p i), rw ek at (times-parts i (length qs) (free t))))
         (λ i. omega (arith, pair-and-free card t w p i, rw ek at (times-parts i (length qs) (free t))))
-        (rw (eq, ek) at (linked-put (queue t p) (w.pairs-run p hp).linked))
-        (rw ek at (linked-put (took ++ drop (length qs) (free t)) (rw (take-append-drop (length qs) (free t)) w.free-runs.linked))))
+        (subst (λ (k : List ℕ). Linked card.none (filled k qs t.slots) (a ∷ f)) ek (rw eq at (linked-put (queue t p) (w.pairs-run p hp).linked)))
+        (subst (λ (k : List ℕ). Linked card.none (filled k qs t.slots) (k ++ drop (length qs) (free t))) ek
+        (linked-put (took ++ drop (length qs) (free t)) (rw (take-append-drop (length qs) (free t)) w.free-runs.linked))))
 
     -- where it holds none, one
     pub stored-writes-empty : (b : ℕ) (l : List ℕ) → queue t p ≡ [] → take (length qs) (free t) ≡ b ∷ l
@@ -125,7 +126,8 @@ module _ (card : Card) (t : Tables) (w : Whole card t) where
         ∙ rw (eq, ek)
         (chain-front card.none b l (drop (length qs) (free t)) (filled (b ∷ l) qs t.slots)
         (λ i. omega (arith, pair-and-free card t w p i, rw ek at (times-parts i (length qs) (free t))))
-        (rw ek at (linked-put (took ++ drop (length qs) (free t)) (rw (take-append-drop (length qs) (free t)) w.free-runs.linked))))
+        (subst (λ (k : List ℕ). Linked card.none (filled k qs t.slots) (k ++ drop (length qs) (free t))) ek
+        (linked-put (took ++ drop (length qs) (free t)) (rw (take-append-drop (length qs) (free t)) w.free-runs.linked))))
 
     -- every slot but those taken keeps its packet
     pub stored-packet : (i : ℕ) → times i (take (length qs) (free t)) ≡ 0 → (slot_at (stored card.none p st qs t).slots i).packet ≡ (slot_at t.slots i).packet
