@@ -11,7 +11,7 @@ pub use lib.Dec.{lit<, ltb, ltb→lt, nltb→le, T as Holds}
 pub use lib.ListN.{length, get_or, set, replicate, length-replicate}
 pub use lib.WfN.{lt-wf_rel as Nat·lt-wfRel}
 pub use seplogic.Ra.Ura.{Ura}
-pub use seplogic.Ra.TreeShare.{full_share}
+pub use base.Fraction.{full_share}
 pub use mir.Syntax.{w8, w16, w32, w64, Local, local, value_local, memory_slot, ty_unit, ty_bool, ty_int, ty_ptr, ty_ref, named, erased, mut}
 pub use mir.Val.{Val, vptr}
 pub use base.Logic.{SProp, ent, emp, id⊢, via, fst∗}
@@ -23,8 +23,9 @@ unfoldable pub use prog.Wp.{after_turn}
 pub use ghost.Atoms.{Atoms}
 pub use sound.WpLaws.{fm_of, WpFn-mono}
 pub use contract.Monad.{Fun, fact, fact_i, fact_mono}
-unfoldable pub use contract.Running.{given_of, tables, tables_of}
-pub use types.Kit.{Given, Item, Sq, ⋆, runs, any_q, at_ret, ◌$◌, ◌∵◌, !, qed, move, rewrite}
+unfoldable pub use contract.Running.{tables, tables_of}
+pub use types.Logic.{Logic}
+pub use types.Kit.{Item, Sq, ⋆, runs, any_q, at_ret, ◌$◌, ◌∵◌, !, qed, move, rewrite}
 pub use types.Part.{whole, sub, look_in, agg, rep}
 pub use types.Run.{look, look_raw, init, store, store_raw, forget, stop, hop, fld, from, load, lit, unit_lit, addr, of_opd, bin, and_then, no_more, assigns, land, land_last, first, blocks, exec, loops, again, Below}
 pub use denote.Plain.{UInt}

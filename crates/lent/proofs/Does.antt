@@ -7,9 +7,9 @@ use mathlib.Core.Bool.{Bool, not}
 use lib.ListN.{length}
 use lib.Dec.{T as Holds}
 use seplogic.Ra.Ura.{Ura}
-use mir.Syntax.{Name, Place, Opd as Operand, Body, erased, named, seq, call, cond, skip, exit}
+use mir.Syntax.{Callee, Place, Opd as Operand, Body, erased, named, seq, call, cond, skip, exit}
 use mir.Val.{Val, vbool}
-use base.Logic.{SProp, ent, sep, emp, ex, guard, id⊢, via, mono_l, mono_r, emp∗, snd∗}
+use base.Logic.{SProp, ent, sep, emp, ex, guard, id⊢, via, mono∗, mono_l, mono_r, emp∗, fst∗, snd∗}
 use base.Fml.{Lft, ftrue}
 use prog.Wp.{Env, Calls, Loops, eval_opds, exits}
 use types.Logic.{Logic, sem}
@@ -20,6 +20,9 @@ use types.Kit.{Item, ‵, raw, ◌⊛◌, some, later, given, mean, ⋆, pop, pu
 use types.Run.{Opd, Opds, first, branches, skips, jumps}
 use denote.RattleType.{RattleType, Denots, Valss, owns, flat}
 use denote.Laws.{Is, shows}
+use types.SemTy.{Body as Holds-at}
+use denote.Memory.{mem}
+use denote.Lend as Lend
 use denote.Ref.{MutRef}
 use denote.Slice.{MutSlice}
 use denote.Signature.{Slot, types_at}
@@ -34,6 +37,8 @@ use Rattle.lent.proofs.Plain.{Plain, Fits, Values, FitsAll, machine, by_value, v
 use Rattle.lent.proofs.Refs.{Ref, slice, cell, Locs, Helds, pointer, pointers, items, Alls, Tolds, gather, spread, tolds, slots, kepts, Sig, ref-args, ref-vals, ref-lasts, Marks, lifetimes, wholes, lent-ats, Keeps, Said, Saids, lends-all, backs-all}
 
 module _ {M : Type 1} {𝓤 : Ura M} (𝓛 : Logic 𝓤) where
+  open 𝓛 use {A}
+
   -- the contract that clauses make
   abbrev pub Ctr : (T : Ended) → Clauses 𝓤 T → Contract 𝓤
   Ctr T c = triple_of 𝓛 T.signature (closing 𝓛 T c)
@@ -61,12 +66,12 @@ module _ {M : Type 1} {𝓤 : Ura M} (𝓛 : Logic 𝓤) where
         (enters rs (λ κs. (sel κs).1) (suc i) ls.1 m.1 (ap (λ (t : Lfts (length (cell R ∷ rs))). t.1) e) xs.1 a vss) $ split ! $ move ! (2 ∷ 0 ∷ []) $ join ! $ frame ! $ move ! (1 ∷ []) $
         use1 𝓛 (‵ ((MutRef (named i) (sel κs).0 R).own_val (record { ref_ptr = (ls.0.b, ls.0.o); ghost_name = m.0.1; now = xs.0 }) (pointer (cell R) ls.0 ∷ []))) (at-lifetime-ref R (record { ref_ptr = (ls.0.b, ls.0.o); ghost_name = m.0.1; now = xs.0 }) _ m.0.0 i (sel κs).0 (ap (λ (t : Lfts (length (cell R ∷ rs))). t.0) e)) $ fjoin ! $ done !
 
-    -- what a clause says at exit
+    -- what a clause says at exit: the borrow that comes with a last value is let go, as the lender waits for the lifetime's end
     says_of : (rs : List Ref) (sel : Lfts n → Lfts (length rs)) (i : ℕ) (ls : Locs rs) (m : Marks rs) (xs : Helds rs) (a : Denots (types_at ps κs)) (ws : Fins κs (slots rs sel i ps) (kepts rs sel i ps ks) (ref-args κs ps ks rs sel i (lent-ats rs ls m) xs a))
         → ent 𝓤 (sem 𝓛 (lasts_of κs (slots rs sel i ps) (kepts rs sel i ps ks) (ref-args κs ps ks rs sel i (lent-ats rs ls m) xs a) ws)) (sem 𝓛 (Saids rs m xs (ref-lasts κs ps ks rs sel i (ref-args κs ps ks rs sel i (lent-ats rs ls m) xs a) ws)))
     says_of [] sel i ls m xs a ws = top 𝓤 _
-    says_of (slice R ∷ rs) sel i ls m xs a ws = mono_r 𝓤 (sem 𝓛 (Said (slice R) m.0.1 xs.0 ws.0)) (says_of rs (λ κs. (sel κs).1) (suc i) ls.1 m.1 xs.1 a ws.1)
-    says_of (cell R ∷ rs) sel i ls m xs a ws = mono_r 𝓤 (sem 𝓛 (Said (cell R) m.0.1 xs.0 ws.0)) (says_of rs (λ κs. (sel κs).1) (suc i) ls.1 m.1 xs.1 a ws.1)
+    says_of (slice R ∷ rs) sel i ls m xs a ws = mono∗ 𝓤 (fst∗ 𝓤 (sem 𝓛 (Said (slice R) m.0.1 xs.0 ws.0)) (A.bor (sel κs).0 (Lend.Held R (length xs.0) ls.0.b ls.0.o m.0.1))) (says_of rs (λ κs. (sel κs).1) (suc i) ls.1 m.1 xs.1 a ws.1)
+    says_of (cell R ∷ rs) sel i ls m xs a ws = mono∗ 𝓤 (fst∗ 𝓤 (sem 𝓛 (Said (cell R) m.0.1 xs.0 ws.0)) (A.bor (sel κs).0 (Holds-at (mem R) ls.0.b ls.0.o m.0.1))) (says_of rs (λ κs. (sel κs).1) (suc i) ls.1 m.1 xs.1 a ws.1)
 
     passes-as : (rs : List Ref) (sel : Lfts n → Lfts (length rs)) (i : ℕ) (ls : Locs rs) (m : Marks rs) (vss : Valss (types_at ps κs)) → flat (types_at (slots rs sel i ps) κs) (ref-vals κs ps ks rs sel i (lent-ats rs ls m) vss) ≡ pointers rs ls ++ flat (types_at ps κs) vss
     passes-as [] sel i ls m vss = refl
@@ -101,14 +106,14 @@ abbrev pub After : {M : Type 1} {𝓤 : Ura M} (𝓛 : Logic 𝓤) (rs : List Re
 After {𝓤 = 𝓤} 𝓛 rs ls res φ u = 𝓛.H.⇛ (ex 𝓤 (λ (r : res.of.Denot). ex 𝓤 (λ (zs : Helds rs). guard 𝓤 (((u ≡ res.val r) × Fits res r) × φ r zs) (sem 𝓛 (Alls rs ls zs)))))
 
 -- the call of k at vs, with the references at xs. Where there are some an update comes first, as they are lent
-abbrev pub Does : {M : Type 1} {𝓤 : Ura M} (𝓛 : Logic 𝓤) → Calls 𝓤 𝓛.H → Name → (rs : List Ref) → Locs rs → Helds rs → List Val → (res : Plain) → (res.of.Denot → Helds rs → Type 0) → Type 1
+abbrev pub Does : {M : Type 1} {𝓤 : Ura M} (𝓛 : Logic 𝓤) → Calls 𝓤 𝓛.H → Callee → (rs : List Ref) → Locs rs → Helds rs → List Val → (res : Plain) → (res.of.Denot → Helds rs → Type 0) → Type 1
 Does {𝓤 = 𝓤} 𝓛 C k rs ls xs vs res φ = ent 𝓤 (sem 𝓛 (Alls rs ls xs)) (𝓛.H.⇛ (C k vs (After 𝓛 rs ls res φ)))
 
-abbrev pub Gives : {M : Type 1} {𝓤 : Ura M} (𝓛 : Logic 𝓤) → Calls 𝓤 𝓛.H → Name → List Val → (res : Plain) → (res.of.Denot → Type 0) → Type 1
+abbrev pub Gives : {M : Type 1} {𝓤 : Ura M} (𝓛 : Logic 𝓤) → Calls 𝓤 𝓛.H → Callee → List Val → (res : Plain) → (res.of.Denot → Type 0) → Type 1
 Gives {𝓤 = 𝓤} 𝓛 C k vs res φ = ent 𝓤 (emp 𝓤) (C k vs (After 𝓛 [] tt res (λ r zs. φ r)))
 
 -- ---- the call, from the callee's triple
-module _ {M : Type 1} {𝓤 : Ura M} (𝓛 : Logic 𝓤) (C : Calls 𝓤 𝓛.H) (fm : FmC 𝓤 𝓛.H 𝓛.laws C) (k : Name) (rs : List Ref) (ps : List Plain) (res : Plain) (c : Clauses 𝓤 (Sig rs ps res)) (known : Triple 𝓤 (C k) (Ctr 𝓛 (Sig rs ps res) c))
+module _ {M : Type 1} {𝓤 : Ura M} (𝓛 : Logic 𝓤) (C : Calls 𝓤 𝓛.H) (fm : FmC 𝓤 𝓛.H 𝓛.laws C) (k : Callee) (rs : List Ref) (ps : List Plain) (res : Plain) (c : Clauses 𝓤 (Sig rs ps res)) (known : Triple 𝓤 (C k) (Ctr 𝓛 (Sig rs ps res) c))
     (ls : Locs rs) (xs : Helds rs) (a : Values ps) (fits : FitsAll ps a) where
   open 𝓛 use {H}
 
@@ -161,7 +166,7 @@ module _ {M : Type 1} {𝓤 : Ura M} (𝓛 : Logic 𝓤) (C : Calls 𝓤 𝓛.H)
         (𝓛.laws.⇛_mono _ _ (qed 𝓛 (some (λ (m : Marks rs). ‵ (Alls rs (lent-ats rs ls m) xs) ⊛ ‵ (Keeps rs ls m xs)) ∷ []) ∵ pick ! (λ m. by ! (lent m p)))))
 
 -- the same where there is no reference
-pub gives : {M : Type 1} {𝓤 : Ura M} (𝓛 : Logic 𝓤) (C : Calls 𝓤 𝓛.H) (fm : FmC 𝓤 𝓛.H 𝓛.laws C) (k : Name) (ps : List Plain) (res : Plain) (c : Clauses 𝓤 (Sig [] ps res)) (known : Triple 𝓤 (C k) (Ctr 𝓛 (Sig [] ps res) c)) (a : Values ps) (fits : FitsAll ps a)
+pub gives : {M : Type 1} {𝓤 : Ura M} (𝓛 : Logic 𝓤) (C : Calls 𝓤 𝓛.H) (fm : FmC 𝓤 𝓛.H 𝓛.laws C) (k : Callee) (ps : List Plain) (res : Plain) (c : Clauses 𝓤 (Sig [] ps res)) (known : Triple 𝓤 (C k) (Ctr 𝓛 (Sig [] ps res) c)) (a : Values ps) (fits : FitsAll ps a)
     (g : (c tt (value-args 0 tt ps a)).ghost) → ent 𝓤 (emp 𝓤) ((c tt (value-args 0 tt ps a)).requires g) → (φ : res.of.Denot → Type 0)
     → ((r : res.of.Denot) (ws : Lasts (Sig [] ps res) tt (value-args 0 tt ps a)) → ent 𝓤 ((c tt (value-args 0 tt ps a)).ensures g r (at_exit (Sig [] ps res) tt (value-args 0 tt ps a) ws)) (fact 𝓤 (φ r))) → Gives 𝓛 C k (machine ps a) res φ
 gives {𝓤 = 𝓤} 𝓛 C fm k ps res c known a fits g req φ told = via 𝓤 (sep 𝓤 (emp 𝓤) (emp 𝓤)) (emp∗ 𝓤 (emp 𝓤)) (lent 𝓛 C fm k [] ps res c known tt tt a fits (λ m. g) (λ m. req) (λ r zs. φ r) (λ m r ws. told r ws) tt tt)
@@ -222,7 +227,7 @@ module _ {M : Type 1} {𝓤 : Ura M} {𝓛 : Logic 𝓤} {K : Type 0} (Γ : List
   exactly r rs ls res f z G s w zs fw e = let p : (w ≡ f) × (zs ≡ z) = both (r ∷ rs) (w ≡ f) zs z e in
       subst (λ (zs' : Helds (r ∷ rs)). Seq K 𝓛 (items (r ∷ rs) ls zs' ++ Γ) (G (res.val w))) (sym p.1) (subst (λ (w' : res.of.Denot). Fits res w' → Seq K 𝓛 (items (r ∷ rs) ls z ++ Γ) (G (res.val w'))) (sym p.0) s fw)
 
-  module _ {E : Env 𝓤 H} {C : Calls 𝓤 H} {k : Name} {ops : List Operand} where
+  module _ {E : Env 𝓤 H} {C : Calls 𝓤 H} {k : Callee} {ops : List Operand} where
     called-value : FmC 𝓤 H 𝓛.laws C → (vs : List Val) (res : Plain) (φ : res.of.Denot → Type 0) → Gives 𝓛 C k vs res φ → Opds K 𝓛 Γ E ops vs → (G : Val → Goal 𝓤 H) → ((u : Val) → Soaks (G u)) → ((w : res.of.Denot) → Fits res w → φ w → Seq K 𝓛 Γ (G (res.val w)))
         → ent 𝓤 (⋆ 𝓛 Γ) (H.⇛ (eval_opds 𝓤 H E ops (λ us. C k us (λ u. aim 𝓤 H (G u)))))
     called-value fm vs res φ D os G z s = via 𝓤 (eval_opds 𝓤 H E ops (λ us. C k us (λ u. aim 𝓤 H (G u))))
@@ -237,7 +242,7 @@ module _ {M : Type 1} {𝓤 : Ura M} {𝓛 : Logic 𝓤} {K : Type 0} (Γ : List
 module _ {M : Type 1} {𝓤 : Ura M} {𝓛 : Logic 𝓤} {K : Type 0} {Γ : List (Item 𝓤)} where
   open 𝓛 use {H}
 
-  module _ {E : Env 𝓤 H} {C : Calls 𝓤 H} {k : Name} {ops : List Operand} {Λ : Loops 𝓤 H} {q : Post 𝓤 H} {d : Place} where
+  module _ {E : Env 𝓤 H} {C : Calls 𝓤 H} {k : Callee} {ops : List Operand} {Λ : Loops 𝓤 H} {q : Post 𝓤 H} {d : Place} where
     -- the references stand at the head of the context, in the callee's order: `refl`
     pub calls-some : K → FmC 𝓤 H 𝓛.laws C → (r : Ref) (rs : List Ref) (ls : Locs (r ∷ rs)) (xs : Helds (r ∷ rs)) → Γ ≡ items (r ∷ rs) ls xs ++ past (r ∷ rs) Γ → (vs : List Val) (res : Plain) (φ : res.of.Denot → Helds (r ∷ rs) → Type 0) → Does 𝓛 C k (r ∷ rs) ls xs vs res φ
         → ((i : Item 𝓤) → Opds K 𝓛 (i ∷ ‵ ftrue ∷ (blanks rs ++ past (r ∷ rs) Γ)) E ops vs)

@@ -1,6 +1,6 @@
 -- An element of a live `&mut [S]`, S a struct of plain data, lent to a call as a `&mut S` where it stands, and taken back at its new value: `lends-elem`, `backs-elem`.
 -- `elem-meets`: `fn at(xs: &mut [S], i: usize, a, b, c) -> T { if i < xs.len() { act(&mut xs[i], a, b, c) } else { let d = none(); past(d, a, b, c) } }` at any S and plain types, once for all: the walk of its MIR.
--- It meets `r ≡ f (get_or xs i d) ..` and `now xs.exit ≡ set xs i (z (get_or xs i d) ..)`, where `act` makes f and leaves z, and `past` makes f. Assumes `Logic`.
+-- It meets `result ≡ f (get_or xs.old i d) ..` and `xs.new ≡ set xs.old i (z (get_or xs.old i d) ..)`, where `act` makes f and leaves z, and `past` makes f. Assumes `Logic`.
 use mathlib.Core.Path.{◌≡◌, refl, sym, ap}
 use mathlib.Core.Option.{some, none}
 use Prim.Native.Nat.{ℕ, ◌<◌, ◌^◌}
@@ -8,11 +8,11 @@ use mathlib.Core.List.{[], ◌∷◌, List, ◌++◌}
 use lib.Dec.{T as Yes, ltb, ltb→lt, nltb→le}
 use lib.ListN.{length, get_or, set, get_or-eq_default}
 use seplogic.Ra.Ura.{Ura}
-use seplogic.Ra.TreeShare.{full_share}
-use mir.Syntax.{Name, Fn, Body, Local, named, erased, mut, unsigned, w64, ty_int, ty_bool, ty_ptr, ty_ref, deref, field, place, copy, int, local, value_local, seq, assign, call, cond, return, rv_opd, addr_of, op2, mul, offset, lt}
+use base.Fraction.{full_share}
+use mir.Syntax.{Callee, Fn, Body, Local, named, erased, mut, unsigned, w64, ty_int, ty_bool, ty_ptr, ty_ref, deref, field, place, copy, int, local, value_local, seq, assign, call, cond, return, rv_opd, addr_of, op2, mul, offset, lt}
 use mir.Val.{Val, vptr}
 use base.Logic.{SProp, ent, emp, via, fst∗}
-use base.Fml.{GName, Lft, Share, Fml, fsep, fat, flft, flent, fres}
+use base.Fml.{GName, Lft, Share, Fml, fsep, fat, flft, flent, fres, fbor}
 use prog.Wp.{Env, Tables, WpFn}
 use types.Logic.{Logic, sem}
 use contract.Monad.{fact, fact_i}
@@ -72,11 +72,11 @@ module _ {M : Type 1} {𝓤 : Ura M} {𝓛 : Logic 𝓤} {K : Type 0} {Γ : List
       → Step K 𝓛 (‵ (live (row S) κ γ b o (set ys i y) vs) ∷ ‵ (flft κ q) ∷ Γ) G (‵ (Live (cell (row S)) (elem-loc b (spot (mem (row S)).size o i) ν δ) y) ∷ ‵ (flft (ν ∷ []) full_share) ∷ ‵ (Out-elem (row S) b (spot (mem (row S)).size o i) ν δ) ∷ ‵ (Away (row S) κ q γ b o ys i) ∷ Γ) G
   unfolding part_of
   backs-elem t z S L pl {b = b} {o} {ν} {δ} ys i y vs l told = step (λ s.
-      use1 𝓛 (later (‵ (fres δ ((row S).coded.code y)))) (Goes-ref 𝓛 1 0 tt (plain (λ _. row S)) (ν ∷ [], tt) (ref-at (elem-loc b (spot (mem (row S)).size o i) ν δ) y) y _ tt) $ await t z $ move t (1 ∷ []) $ lft_end t z $ move t (0 ∷ 2 ∷ 1 ∷ []) $
+      use1 𝓛 (later (‵ (fsep (fres δ ((row S).coded.code y)) (fbor (ν ∷ []) (Holds (mem (row S)) b (spot (mem (row S)).size o i) δ))))) (Goes-ref 𝓛 1 0 tt (plain (λ _. row S)) (ν ∷ [], tt) (ref-at (elem-loc b (spot (mem (row S)).size o i) ν δ) y) y _ tt) $ await t z $ fsplit t $ move t (1 ∷ []) $ drop t $ move t (1 ∷ []) $ lft_end t z $ move t (0 ∷ 2 ∷ 1 ∷ []) $
       use3 𝓛 (later (‵ ((mem (row S)).own_at y b (spot (mem (row S)).size o i)))) (Lend.ref_back 𝓛 (row S) (ν ∷ []) δ y b (spot (mem (row S)).size o i)) $ await t z $ fpick t (λ us. fsplit t $ move t (1 ∷ []) $
       peeks t (row S) (Is (row S)) (shows 𝓛 (row S)) y us (λ is. drop t $ closes-elem t z S L pl ys i y us vs l told is $ s)))
 
-module _ (S : Declared) (L : LL.Laws S) (cp : LL.Copyables S.parts) (pl : Plains (fields S)) (small : Yes (ltb (mem (row S)).size (2 ^ 64))) (P1 P2 P3 res : Plain) (act none_of past : Name) where
+module _ (S : Declared) (L : LL.Laws S) (cp : LL.Copyables S.parts) (pl : Plains (fields S)) (small : Yes (ltb (mem (row S)).size (2 ^ 64))) (P1 P2 P3 res : Plain) (act none_of past : Callee) where
   abbrev R : RattleType
   R = row S
 
@@ -106,6 +106,8 @@ module _ (S : Declared) (L : LL.Laws S) (cp : LL.Copyables S.parts) (pl : Plains
   function = record {
     lifetimes = 1;
     outlives = [];
+    ty_params = [];
+    givens = 0;
     params = 5;
     locals = locals;
     body = seq (assign (place 7 []) (rv_opd (copy (place 1 (field 1 ∷ [])))))

@@ -1,5 +1,5 @@
 -- `fn get(xs: &mut [S], i: usize, d: S) -> S { if i < xs.len() { xs[i] } else { d } }` at any struct S of plain data: the walk of its MIR, once for all.
--- `get_meets`: it meets `r ≡ get_or (now xs.entry) i d` and that xs is at exit as it was. A crate's getter cites it at its struct. Assumes `Logic`.
+-- `get-meets`: it meets `result ≡ get_or xs.old i d` and that xs is at exit as it was. A crate's getter cites it at its struct. Assumes `Logic`.
 use mathlib.Core.Path.{◌≡◌, refl, sym}
 use mathlib.Core.Option.{some}
 use Prim.Native.Nat.{ℕ, ◌<◌, ◌^◌}
@@ -7,7 +7,7 @@ use mathlib.Core.List.{[], ◌∷◌, List, ◌++◌}
 use lib.Dec.{T as Holds, ltb, ltb→lt, nltb→le}
 use lib.ListN.{length, get_or, get_or-eq_default}
 use seplogic.Ra.Ura.{Ura}
-use seplogic.Ra.TreeShare.{full_share}
+use base.Fraction.{full_share}
 use mir.Syntax.{Fn, Body, Local, named, mut, unsigned, w64, ty_int, ty_bool, ty_ptr, ty_ref, deref, field, place, copy, int, local, value_local, seq, assign, cond, return, rv_opd, op2, mul, offset, lt}
 use mir.Val.{Val, vptr}
 use base.Logic.{SProp, ent, emp, via, fst∗}
@@ -62,6 +62,8 @@ module _ (S : Declared) (L : LL.Laws S) (cp : LL.Copyables S.parts) (pl : Plains
   function = record {
     lifetimes = 1;
     outlives = [];
+    ty_params = [];
+    givens = 0;
     params = 3;
     locals = locals;
     body = seq (assign (place 4 []) (rv_opd (copy (place 1 (field 1 ∷ [])))))
@@ -106,6 +108,6 @@ module _ (S : Declared) (L : LL.Laws S) (cp : LL.Copyables S.parts) (pl : Plains
         assigns ! (of_opd ! (var ! 14 refl)) (from ! (stop !)) (init ! 2 refl (P.typed 𝓛 d gd)) $
         finishes ! (items rs ls (ys, tt)) locals bs (some _ ∷ some _ ∷ some _ ∷ some _ ∷ some _ ∷ some _ ∷ some _ ∷ []) (look ! 2 refl) (ended 𝓛 rs ls P Good d (ys, tt) gd (sym (get_or-eq_default ys d (nltb→le i (length ys) no')), refl))))
 
-  pub get_meets : {M : Type 1} {𝓤 : Ura M} (𝓛 : Logic 𝓤) (𝓣 : Tables 𝓤 𝓛.H) → Meets 𝓛 (Sig rs ps P).signature (WpFn 𝓤 𝓛.H 𝓣.C 𝓣.Λ function) (closing 𝓛 (Sig rs ps P) (clauses 𝓤))
-  get_meets {𝓤 = 𝓤} 𝓛 𝓣 = meets 𝓛 rs ps P (clauses 𝓤) _ (WpFn-mono 𝓤 𝓛.H 𝓛.laws 𝓣 function) (λ xs a r zs. (r ≡ get_or xs.0 a.0 a.1.0) × (zs.0 ≡ xs.0)) (λ κs a g r zs e. fact_i 𝓤 _ _ e)
+  pub get-meets : {M : Type 1} {𝓤 : Ura M} (𝓛 : Logic 𝓤) (𝓣 : Tables 𝓤 𝓛.H) → Meets 𝓛 (Sig rs ps P).signature (WpFn 𝓤 𝓛.H 𝓣.C 𝓣.Λ function) (closing 𝓛 (Sig rs ps P) (clauses 𝓤))
+  get-meets {𝓤 = 𝓤} 𝓛 𝓣 = meets 𝓛 rs ps P (clauses 𝓤) _ (WpFn-mono 𝓤 𝓛.H 𝓛.laws 𝓣 function) (λ xs a r zs. (r ≡ get_or xs.0 a.0 a.1.0) × (zs.0 ≡ xs.0)) (λ κs a g r zs e. fact_i 𝓤 _ _ e)
       (λ κs qs a g told fits. via 𝓤 _ (fst∗ 𝓤 _ (emp 𝓤)) (walk 𝓛 𝓣.C 𝓣.Λ a.0.ref_ptr.0 a.0.ref_ptr.1 a.0.ghost_name κs.0 qs.0 a.0.now a.1.0 a.1.1.0 told.0.1 fits.0.1 fits.1.0))

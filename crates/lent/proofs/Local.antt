@@ -5,11 +5,11 @@ use Prim.Native.Nat.{ℕ, zero, suc}
 use mathlib.Core.List.{List, [], ◌∷◌, map}
 use lib.ListN.{length, replicate}
 use seplogic.Ra.Ura.{Ura}
-use seplogic.Ra.TreeShare.{full_share}
+use base.Fraction.{full_share}
 use mir.Syntax.{Ty, erased}
 use mir.Val.{Val}
 use base.Logic.{ent, sep, via, mono_r}
-use base.Fml.{GName, Fml, fsep, feq, flft, fat, flent, fres, fdead}
+use base.Fml.{GName, Fml, fsep, feq, flft, fat, flent, fres, fdead, fbor}
 use types.Logic.{Logic, sem}
 use types.Kit.{Item, ‵, raw, ◌⊛◌, some, later, mean, ⋆, nth, del, put, fill, pull, push, pop, Goal, Soaks, Seq, ◌$◌, ◌∵◌, !, qed, by, move, drop, use0, use1, use2, use3, split, pick, fsplit, fjoin, fpick, fpack, await, rewrite, done}
 use types.Tokens.{lft_new, lft_end}
@@ -117,7 +117,7 @@ module _ {M : Type 1} {𝓤 : Ura M} {𝓛 : Logic 𝓤} {K : Type 0} {Γ : List
   pub backs-cell : K → Soaks G → (P : Plain) → Single P.of.mir → (p b : ℕ) {ν : ℕ} {δ : GName} (z : P.of.Denot) → nth 𝓛 p Γ ≡ ‵ (Out-cell P.of b ν δ)
       → Seq K 𝓛 (put 𝓛 p (‵ (fat full_share (lone P.of.mir) b zero (P.val z))) Γ) G → Seq K 𝓛 (‵ (Live (cell P.of) (local-loc b 0 ν δ) z) ∷ ‵ (flft (ν ∷ []) full_share) ∷ Γ) G
   backs-cell t q P s p b {ν} {δ} z e k =
-      use1 𝓛 (later (‵ (fres δ (P.of.coded.code z)))) (Goes-ref 𝓛 1 0 tt (plain (λ _. P.of)) (ν ∷ [], tt) (ref-at (local-loc b 0 ν δ) z) z _ tt) $ await t q $ move t (1 ∷ []) $ lft_end t q $ record {
+      use1 𝓛 (later (‵ (fsep (fres δ (P.of.coded.code z)) (fbor (ν ∷ []) (Holds (mem P.of) b 0 δ))))) (Goes-ref 𝓛 1 0 tt (plain (λ _. P.of)) (ν ∷ [], tt) (ref-at (local-loc b 0 ν δ) z) z _ tt) $ await t q $ fsplit t $ move t (1 ∷ []) $ drop t $ move t (1 ∷ []) $ lft_end t q $ record {
         prf = via 𝓤 _ (mono_r 𝓤 (A.dead (ν ∷ [])) (via 𝓤 _ (pop 𝓛 (‵ (fres δ (P.of.coded.code z))) Γ) (mono_r 𝓤 (A.res δ (P.of.coded.code z)) (subst (λ (j : Item 𝓤). ent 𝓤 (⋆ 𝓛 Γ) (sep 𝓤 (mean 𝓛 j) (⋆ 𝓛 (del 𝓛 p Γ)))) e (pull 𝓛 p Γ))))) rest.prf;
       }
     where
@@ -128,7 +128,7 @@ module _ {M : Type 1} {𝓤 : Ura M} {𝓛 : Logic 𝓤} {K : Type 0} {Γ : List
   pub backs-array : K → Soaks G → (P : Plain) → Single P.of.mir → (n p b : ℕ) {ν : ℕ} {δ : GName} (zs : List P.of.Denot) → nth 𝓛 p Γ ≡ ‵ (Out-slice P.of b n ν δ)
       → Seq K 𝓛 (put 𝓛 p (‵ (fat full_share (lone (Array P.of n).mir) b zero ((plain-array P n).val zs))) Γ) G → Seq K 𝓛 (‵ (Live (slice P.of) (local-loc b n ν δ) zs) ∷ ‵ (flft (ν ∷ []) full_share) ∷ Γ) G
   backs-array t q P s n p b {ν} {δ} zs e k =
-      use1 𝓛 (later (‵ (fsep (finally P.of δ zs) (feq ℕ (length zs) (length zs))))) (Goes-slice 𝓛 1 0 tt (plain (λ _. P.of)) (ν ∷ [], tt) (ref-at (local-loc b n ν δ) zs) zs _ refl) $ await t q $ fsplit t $ move t (1 ∷ []) $ drop t $ move t (1 ∷ []) $ lft_end t q $ record {
+      use1 𝓛 (later (‵ (fsep (fsep (finally P.of δ zs) (feq ℕ (length zs) (length zs))) (fbor (ν ∷ []) (Lend.Held P.of (length zs) b 0 δ))))) (Goes-slice 𝓛 1 0 tt (plain (λ _. P.of)) (ν ∷ [], tt) (ref-at (local-loc b n ν δ) zs) zs _ refl) $ await t q $ fsplit t $ move t (1 ∷ []) $ drop t $ fsplit t $ move t (1 ∷ []) $ drop t $ move t (1 ∷ []) $ lft_end t q $ record {
         prf = via 𝓤 _ (mono_r 𝓤 (A.dead (ν ∷ [])) (via 𝓤 _ (pop 𝓛 (‵ (finally P.of δ zs)) Γ) (mono_r 𝓤 (sem 𝓛 (finally P.of δ zs)) (subst (λ (j : Item 𝓤). ent 𝓤 (⋆ 𝓛 Γ) (sep 𝓤 (mean 𝓛 j) (⋆ 𝓛 (del 𝓛 p Γ)))) e (pull 𝓛 p Γ))))) rest.prf;
       }
     where

@@ -15,8 +15,9 @@ use contract.Lifetimes.{Lfts, Shares, toks}
 use types.Kit.{‵, raw, ◌⊛◌, some, later, given, ⋆, ◌$◌, ◌∵◌, !, qed, move, use0, use1, use2, split, join, learn, pick, fsplit, fjoin, frame, await, updating, now as at_once, show, done}
 use denote.RattleType.{Denots, owns, flat}
 use denote.Laws.{Ises, Are, Spells, Tellss, valss}
-use denote.Ref.{mut_vals, mut_Tells}
-use denote.Slice.{mut_slice_vals, mut_slice_Tells}
+use denote.Exit.{left, yes}
+use denote.Ref.{MutRef, mut_vals, mut_Tells}
+use denote.Slice.{MutSlice, mut_slice_vals, mut_slice_Tells}
 use denote.Signature.{Slot, plain, types_at}
 use denote.Steps.{said}
 use denote.Triple.Entry.{Args, Vals, on_entry}
@@ -25,7 +26,7 @@ use denote.Triple.Clauses.{Ended, Clauses, Lasts, at_exit, lasts, ensured, closi
 use denote.Triple.End.{Kepts, Fins, lasts_of}
 use denote.Triple.Walked.{Goes-slice, Goes-ref}
 use Rattle.lent.proofs.Plain.{Plain, Fits, Values, FitsAll, machine, by_value, value-kepts, values_of, value-spells, value_tells, value-lasts, value-silent}
-use Rattle.lent.proofs.Refs.{Ref, slice, cell, Locs, Helds, pointer, pointers, items, Alls, Tolds, spread, tolds, slots, kepts, Sig, counted, Said}
+use Rattle.lent.proofs.Refs.{Ref, slice, cell, Locs, Helds, pointer, pointers, items, Alls, Tolds, spread, tolds, slots, kepts, Sig, counted}
 use Rattle.lent.proofs.Does.{Ctr, After}
 
 -- ---- what a function is passed: the references' places and values, and the plain values
@@ -38,7 +39,7 @@ module _ {n : ℕ} (κs : Lfts n) (ps : List (Slot n)) where
   abbrev locs-of : (rs : List Ref) (sel : Lfts n → Lfts (length rs)) (i : ℕ) → Shares (length rs) → Denots (types_at (slots rs sel i ps) κs) → Locs rs
   locs-of [] sel i qs a = tt
   locs-of (slice R ∷ rs) sel i qs a = (record { b = a.0.ref_ptr.0; o = a.0.ref_ptr.1; n = length a.0.now; γ = a.0.ghost_name; κ = (sel κs).0; q = qs.0 }, locs-of rs (λ κs. (sel κs).1) (suc i) qs.1 a.1)
-  locs-of (cell R ∷ rs) sel i qs a = (record { b = a.0.ptr.0; o = a.0.ptr.1; n = 0; γ = a.0.name; κ = (sel κs).0; q = qs.0 }, locs-of rs (λ κs. (sel κs).1) (suc i) qs.1 a.1)
+  locs-of (cell R ∷ rs) sel i qs a = (record { b = a.0.ref_ptr.0; o = a.0.ref_ptr.1; n = 0; γ = a.0.ghost_name; κ = (sel κs).0; q = qs.0 }, locs-of rs (λ κs. (sel κs).1) (suc i) qs.1 a.1)
 
   abbrev rest-args : (rs : List Ref) (sel : Lfts n → Lfts (length rs)) (i : ℕ) → Denots (types_at (slots rs sel i ps) κs) → Denots (types_at ps κs)
   rest-args [] sel i a = a
@@ -93,13 +94,13 @@ module _ {n : ℕ} (κs : Lfts n) (ps : List (Slot n)) where
       goes-out [] sel i qs a zs p ws q = qed 𝓛 (‵ ftrue ∷ []) ∵ updating ! $ at_once ! $ frame ! $ use0 𝓛 (‵ (lasts_of κs ps ks a ws)) q $ done !
       goes-out (slice R ∷ rs) sel i qs a zs p ws q =
           qed 𝓛 (‵ (Alls (slice R ∷ rs) (locs-of (slice R ∷ rs) sel i qs a) zs) ∷ []) ∵ updating ! $ fsplit ! $
-          use1 𝓛 (later (‵ (Said (slice R) a.0.ghost_name a.0.now zs.0))) (Goes-slice 𝓛 1 0 tt (plain (λ _. R)) ((sel κs).0, tt) a.0 zs.0 _ (sym (counted _ _ _ _ p.0.0))) $ await ! tt $ move ! (1 ∷ []) $ fsplit ! $ move ! (1 ∷ []) $
+          use1 𝓛 (later (‵ (left ((MutSlice (named i) (sel κs).0 R).exit yes) a.0 zs.0))) (Goes-slice 𝓛 1 0 tt (plain (λ _. R)) ((sel κs).0, tt) a.0 zs.0 _ (sym (counted _ _ _ _ p.0.0))) $ await ! tt $ move ! (1 ∷ []) $ fsplit ! $ move ! (1 ∷ []) $
           use1 𝓛 (later (raw (toks 𝓛 (length rs) (sel κs).1 qs.1) ⊛ ‵ (lasts_of κs (slots rs (λ κs. (sel κs).1) (suc i) ps) (kepts rs (λ κs. (sel κs).1) (suc i) ps ks) a.1 (fins-of rs (λ κs. (sel κs).1) (suc i) a.1 zs.1 ws)))) (goes-out rs (λ κs. (sel κs).1) (suc i) qs.1 a.1 zs.1 p.1 ws q) $ await ! tt $ split ! $ at_once ! $
           -- [the other tokens; the others said; this token; this one said]
           move ! (2 ∷ 0 ∷ []) $ join ! $ frame ! $ move ! (1 ∷ 0 ∷ []) $ fjoin ! $ done !
       goes-out (cell R ∷ rs) sel i qs a zs p ws q =
           qed 𝓛 (‵ (Alls (cell R ∷ rs) (locs-of (cell R ∷ rs) sel i qs a) zs) ∷ []) ∵ updating ! $ fsplit ! $
-          use1 𝓛 (later (‵ (Said (cell R) a.0.ghost_name a.0.now zs.0))) (Goes-ref 𝓛 1 0 tt (plain (λ _. R)) ((sel κs).0, tt) a.0 zs.0 _ tt) $ await ! tt $ move ! (1 ∷ []) $ fsplit ! $ move ! (1 ∷ []) $
+          use1 𝓛 (later (‵ (left ((MutRef (named i) (sel κs).0 R).exit yes) a.0 zs.0))) (Goes-ref 𝓛 1 0 tt (plain (λ _. R)) ((sel κs).0, tt) a.0 zs.0 _ tt) $ await ! tt $ move ! (1 ∷ []) $ fsplit ! $ move ! (1 ∷ []) $
           use1 𝓛 (later (raw (toks 𝓛 (length rs) (sel κs).1 qs.1) ⊛ ‵ (lasts_of κs (slots rs (λ κs. (sel κs).1) (suc i) ps) (kepts rs (λ κs. (sel κs).1) (suc i) ps ks) a.1 (fins-of rs (λ κs. (sel κs).1) (suc i) a.1 zs.1 ws)))) (goes-out rs (λ κs. (sel κs).1) (suc i) qs.1 a.1 zs.1 p.1 ws q) $ await ! tt $ split ! $ at_once ! $
           move ! (2 ∷ 0 ∷ []) $ join ! $ frame ! $ move ! (1 ∷ 0 ∷ []) $ fjoin ! $ done !
 

@@ -1,5 +1,5 @@
 -- `fn put(xs: &mut [S], i: usize, s: S) { if i < xs.len() { xs[i] = s; } }` at any struct S of plain data: the walk of its MIR, once for all.
--- `put_meets`: it meets `now xs.exit ≡ set (now xs.entry) i s`; past the end `set` changes nothing. A crate's putter cites it at its struct. Assumes `Logic`.
+-- `put-meets`: it meets `xs.new ≡ set xs.old i s`; past the end `set` changes nothing. A crate's putter cites it at its struct. Assumes `Logic`.
 use mathlib.Core.Path.{◌≡◌, refl, sym, ap}
 use mathlib.Core.Option.{some}
 use Prim.Native.Nat.{ℕ, zero, suc, ◌<◌, ◌≤◌, ◌^◌}
@@ -8,7 +8,7 @@ use mathlib.Core.List.{[], ◌∷◌, List, ◌++◌}
 use lib.Dec.{T as Holds, ltb, ltb→lt, nltb→le}
 use lib.ListN.{length, set}
 use seplogic.Ra.Ura.{Ura}
-use seplogic.Ra.TreeShare.{full_share}
+use base.Fraction.{full_share}
 use mir.Syntax.{Fn, Body, Local, named, mut, unsigned, w64, ty_int, ty_bool, ty_unit, ty_ptr, ty_ref, deref, field, place, copy, int, opd_unit, local, value_local, seq, assign, cond, skip, return, rv_opd, op2, mul, offset, lt}
 use mir.Val.{Val, vptr}
 use base.Logic.{SProp, ent, emp, via, fst∗}
@@ -69,6 +69,8 @@ module _ (S : Declared) (L : LL.Laws S) (cp : LL.Copyables S.parts) (pl : Plains
   function = record {
     lifetimes = 1;
     outlives = [];
+    ty_params = [];
+    givens = 0;
     params = 3;
     locals = locals;
     body = seq (assign (place 4 []) (rv_opd (copy (place 1 (field 1 ∷ [])))))
@@ -111,6 +113,6 @@ module _ (S : Declared) (L : LL.Laws S) (cp : LL.Copyables S.parts) (pl : Plains
         assigns ! (of_opd ! (unit_lit !)) (from ! (stop !)) (init ! 2 refl (tt, tt)) $
         finishes ! (items rs ls (ys, tt)) locals bs (some _ ∷ some _ ∷ some _ ∷ some _ ∷ some _ ∷ some _ ∷ []) (look ! 2 refl) (ended 𝓛 rs ls plain-unit Good tt (ys, tt) refl (set_past ys i s (nltb→le i (length ys) no')))))
 
-  pub put_meets : {M : Type 1} {𝓤 : Ura M} (𝓛 : Logic 𝓤) (𝓣 : Tables 𝓤 𝓛.H) → Meets 𝓛 (Sig rs ps plain-unit).signature (WpFn 𝓤 𝓛.H 𝓣.C 𝓣.Λ function) (closing 𝓛 (Sig rs ps plain-unit) (clauses 𝓤))
-  put_meets {𝓤 = 𝓤} 𝓛 𝓣 = meets 𝓛 rs ps plain-unit (clauses 𝓤) _ (WpFn-mono 𝓤 𝓛.H 𝓛.laws 𝓣 function) (λ xs a r zs. zs.0 ≡ set xs.0 a.0 a.1.0) (λ κs a g r zs e. fact_i 𝓤 _ _ e)
+  pub put-meets : {M : Type 1} {𝓤 : Ura M} (𝓛 : Logic 𝓤) (𝓣 : Tables 𝓤 𝓛.H) → Meets 𝓛 (Sig rs ps plain-unit).signature (WpFn 𝓤 𝓛.H 𝓣.C 𝓣.Λ function) (closing 𝓛 (Sig rs ps plain-unit) (clauses 𝓤))
+  put-meets {𝓤 = 𝓤} 𝓛 𝓣 = meets 𝓛 rs ps plain-unit (clauses 𝓤) _ (WpFn-mono 𝓤 𝓛.H 𝓛.laws 𝓣 function) (λ xs a r zs. zs.0 ≡ set xs.0 a.0 a.1.0) (λ κs a g r zs e. fact_i 𝓤 _ _ e)
       (λ κs qs a g told fits. via 𝓤 _ (fst∗ 𝓤 _ (emp 𝓤)) (walk 𝓛 𝓣.C 𝓣.Λ a.0.ref_ptr.0 a.0.ref_ptr.1 a.0.ghost_name κs.0 qs.0 a.0.now a.1.0 a.1.1.0 told.0.1 fits.0.1 fits.1.0))

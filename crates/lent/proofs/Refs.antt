@@ -5,9 +5,9 @@ use Prim.Native.Nat.{ℕ, suc}
 use mathlib.Core.List.{List, [], ◌∷◌}
 use lib.ListN.{length}
 use seplogic.Ra.Ura.{Ura}
-use seplogic.Ra.TreeShare.{full_share}
+use base.Fraction.{full_share}
 use mir.Syntax.{Lifetime, erased, named}
-use mir.Val.{Val, Vals, vint, vptr, vstruct, vunit, vbool, vfloat, vnil, vcons}
+use mir.Val.{Val, Vals, vint, vptr, vstruct, vunit, vbool, vfloat, vcode, vnil, vcons}
 use base.Logic.{ent, sep, emp, ex, id⊢, via, mono_r, fst∗, snd∗}
 use base.Fml.{Lft, GName, Share, Fml, ftrue, fsep, flft, fdead, fobs, fauth, flent, fobor, fres, feq}
 use types.Logic.{Logic, sem}
@@ -100,6 +100,7 @@ count-in (vcons vunit vs) = 0
 count-in (vcons (vbool t) vs) = 0
 count-in (vcons (vfloat f x) vs) = 0
 count-in (vcons (vstruct us) vs) = 0
+count-in (vcons (vcode c) vs) = 0
 
 abbrev count_of : List Val → ℕ
 count_of [] = 0
@@ -109,6 +110,7 @@ count_of (vbool t ∷ us) = 0
 count_of (vfloat f x ∷ us) = 0
 count_of (vint w n ∷ us) = 0
 count_of (vptr b o ∷ us) = 0
+count_of (vcode c ∷ us) = 0
 
 pub counted : (b o m n : ℕ) → slice_val (b, o) m ∷ [] ≡ slice_val (b, o) n ∷ [] → m ≡ n
 counted b o m n e = ap count_of e

@@ -10,7 +10,6 @@ use lib.ListN.{length, get_or, get_or-append}
 use native.Mathlib.Nat.{pow-suc, suc-ne-zero}
 use borrow.Author.Tests.{lt-ltb, le-ltb, le-leb, eq-eqb, eqb-true}
 use Rattle.text.specs.declared.Number.TheVariants.{Is}
-use Rattle.text.specs.Text.{same}
 use Rattle.text.specs.Number.{digit, digits, value, number_of}
 use Rattle.text.specs.Hex.{nibble, hex_digits, is_hex, octets, glyph, lower, hex_text}
 use Rattle.text.specs.Out.{decimal_in, decimal}

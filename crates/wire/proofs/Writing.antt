@@ -7,8 +7,7 @@ use native.Mathlib.Omega.{arith}
 use lib.ListN.{length, replicate, length-append, length-replicate}
 use Rattle.refusal.specs.Choice.{if◌then◌else◌}
 use Rattle.refusal.proofs.Cases.{by-test}
-use Rattle.wire.specs.Bytes.{bytes}
-use Rattle.wire.specs.Layout.{Name, bth, reth, immediate_data, aeth, size, laid}
+use Rattle.wire.specs.Layout.{Name, bth, reth, immediate_data, aeth, laid}
 use Rattle.wire.specs.Opcodes.{known, has_reth, has_immediate, has_aeth, joined, layout, header_length, row_of}
 use Rattle.wire.specs.Header.{header_bytes, put, written, is_out_of_range, refused, write_of}
 use Rattle.wire.specs.Inner.Out.{filled, Adds, spelled}

@@ -1,0 +1,11 @@
+-- `place_at` meets its contract: an offset that is cut first comes to the same.
+use mathlib.Core.Path.{sym, ◌∙◌}
+use Rattle.rules.specs.Message.{made, read_request}
+use Rattle.message.proofs.Cuts.{cut_again}
+use Rattle.message.proofs.places.place_at.Goals as goal
+
+pub returns-then-read : goal.returns-then-read
+returns-then-read c =
+    let a = c.args in
+    simp (c.make.ensures, sym c.asks_read-read.ensures ∙ c.if-read.true)
+    (cut_again (made read_request a.m a.first a.m.offset a.m.length))
