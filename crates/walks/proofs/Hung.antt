@@ -1,8 +1,8 @@
 -- A slot is hung at a queue's end, with a packet; then the next. What the slots come to: the links of the longer queue, and the packets. Over any `none`.
-use mathlib.Core.Path.{◌≡◌, refl, sym, ap, ◌∙◌}
+use mathlib.Core.Path.{◌≡◌, refl, sym, ap, subst, ◌∙◌}
 use mathlib.Core.Logic.{◌≢◌}
 use mathlib.Core.List.{List, [], ◌∷◌, ◌++◌}
-use Prim.Native.Nat.{ℕ, ◌+◌, ◌≤◌}
+use Prim.Native.Nat.{ℕ, ◌≤◌}
 use native.Mathlib.Omega.{arith}
 use lib.Dec.{ltb}
 use borrow.Author.Tests.{ltb-true, ltb-false}
@@ -68,7 +68,8 @@ module _ (none : ℕ) where
   unfolding relinked
   hung-is [] a q s n d h = ap (λ (x : List Slot). relinked a none (holding a q x)) (set_out s none _ n)
   hung-is (b ∷ f) a q s n d h =
-      let far : a ≢ last_of none (b ∷ f) = λ e. omega (arith, d a, times-same a [], rw (← e) at (times-last none b f)) in
+      let far : a ≢ last_of none (b ∷ f) =
+      λ e. omega (arith, d a, times-same a [], subst (λ (i : ℕ). 1 ≤ times i (b ∷ f)) (sym e) (times-last none b f)) in
       ap (relinked a none) (holding-altered a q (last_of none (b ∷ f)) (λ x. record { link = a; packet = x.packet }) s far)
       ∙ relinked-swap a (last_of none (b ∷ f)) none a (holding a q s) far
       ∙ sym (chain-join none none b f (a ∷ []) (holding a q s) (λ i. omega (arith, d i)) d

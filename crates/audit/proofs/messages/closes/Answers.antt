@@ -1,10 +1,6 @@
 -- `closes` meets its contract.
-use mathlib.Core.Path.{ap}
-use native.Mathlib.Omega.{arith}
-use Rattle.rules.specs.declared.Post.{Post}
 use Rattle.rules.specs.Passes.Stage.{closes}
 use Rattle.message.specs.Capped.{capped}
-use Rattle.message.proofs.Numbers.{small_product}
 use Rattle.audit.proofs.Facts.{too_long}
 use Rattle.audit.proofs.messages.closes.Goals as goal
 

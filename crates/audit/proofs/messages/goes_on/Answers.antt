@@ -1,8 +1,6 @@
 -- `goes_on` meets its contract.
 use Rattle.rules.specs.Passes.Stage.{goes_on}
 use Rattle.message.specs.Capped.{capped}
-use Rattle.message.proofs.Numbers.{small_product}
-use native.Mathlib.Omega.{arith}
 use Rattle.audit.proofs.Opcodes.{no_middle}
 use Rattle.audit.proofs.messages.goes_on.Goals as goal
 
@@ -14,7 +12,7 @@ unfolding goes_on capped
 returns c =
     simp (
       c.both.ensures,
-      c.is_Within.ensures,
+      c.is_within-room.ensures,
       c.is_made-here.ensures,
       c.plus-psn.ensures,
       c.post_of-m.ensures,

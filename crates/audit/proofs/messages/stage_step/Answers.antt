@@ -1,5 +1,5 @@
 -- `stage_step` meets its contract: the two steps are the definition's one.
-use mathlib.Core.Path.{sym, ap, ◌∙◌}
+use mathlib.Core.Path.{ap, ◌∙◌}
 use Rattle.rules.specs.declared.carried.Stage.{Stage}
 use Rattle.message.specs.Capped.{capped}
 use Rattle.audit.specs.Stages.{resume}

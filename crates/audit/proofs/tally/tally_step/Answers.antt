@@ -2,7 +2,6 @@
 use mathlib.Core.Path.{sym, ◌∙◌}
 use native.Mathlib.Omega.{arith}
 use Rattle.audit.proofs.Facts.{fits-room}
-use borrow.Author.Tests.{eq-eqb, ne_eqb}
 use Rattle.audit.proofs.tally.tally_step.Goals as goal
 
 pub overflow_add-result : goal.overflow_add-result
