@@ -1,5 +1,5 @@
 -- A fresh start: each record of a table is written once, from the last to the first, and then the tables are the rules' fresh ones.
-use mathlib.Core.Path.{◌≡◌, refl, sym, ap, ◌∙◌}
+use mathlib.Core.Path.{◌≡◌, refl, ap, ◌∙◌}
 use mathlib.Core.Bool.{Bool, true, false, ◌&&◌}
 use mathlib.Core.List.{List, [], ◌∷◌, ◌++◌, map}
 use Prim.Native.Nat.{ℕ, zero, suc, ◌+◌, ◌-◌, ◌≤◌, ◌<◌}
@@ -8,7 +8,6 @@ use lib.Dec.{eqb}
 use borrow.Author.Tests.{eqb-true}
 use Rattle.refusal.specs.Choice.{if◌then◌else◌}
 use lib.ListN.{length, set, drop, length-set}
-use Rattle.refusal.specs.Loop.{loop}
 use Rattle.refusal.proofs.Loop.{loop-done, loop-more}
 use Rattle.rules.specs.Message.{from}
 use Rattle.rules.specs.declared.Ends.{Ends}
@@ -25,10 +24,10 @@ module _ {A : Type 0} (row : ℕ → A) where
   pub fill-less : (x : Filled A) → 0 < x.work.left → (fill_turn row x).work.left < x.work.left
   fill-less x l = omega (arith, l)
 
-  fill_done : (x : Filled A) → x.work.left ≡ 0 → fill row x ≡ x
+  pub fill_done : (x : Filled A) → x.work.left ≡ 0 → fill row x ≡ x
   fill_done = loop-done (λ (y : Filled A). y.work.left) (fill_turn row) fill-less
 
-  fill_more : (x : Filled A) → 0 < x.work.left → fill row x ≡ fill row (fill_turn row x)
+  pub fill_more : (x : Filled A) → 0 < x.work.left → fill row x ≡ fill row (fill_turn row x)
   fill_more = loop-more (λ (y : Filled A). y.work.left) (fill_turn row) fill-less
 
   -- the record that is written is the first of those behind

@@ -1,4 +1,3 @@
-mod Types
 pub mod Called
 pub mod Fresh
 pub mod Limited

@@ -10,14 +10,13 @@ use Rattle.rules.specs.declared.Reply.{Reply}
 use Rattle.rules.specs.declared.Slot.{Slot}
 use Rattle.rules.specs.Calls.{Said, Step, call}
 use Rattle.rules.specs.Card.{small}
-use Rattle.rules.specs.Demands.{Faithful}
 use Rattle.rules.specs.History.{Run, run, called}
 use Rattle.rules.specs.Requests.{opening, posting, emitting, acknowledging, responding, ticking, closing, Call, starting, on}
 use Rattle.rules.specs.Slots.{Tables, fresh}
 use Rattle.rules.proofs.Calls.Buffers.{call_buffer}
 use Rattle.rules.proofs.Demands.{demand3, starts, harmless}
 use Rattle.card.specs.Lent.{lent, Answers, Fills}
-use Rattle.card.specs.Memory.{Event, Kept, Handed, last_of, calls, answers, Holds, MemoryHolds}
+use Rattle.card.specs.Memory.{Event, Kept, Handed, last_of, calls, answers, MemoryHolds}
 
 -- ---- one call
 

@@ -1,5 +1,5 @@
 -- What private functions promise one another; nobody need believe it.
-use Rattle.std.specs.Prelude.{◌≡◌, List, ◌∷◌, [], map, ◌&&◌, ℕ, ◌-◌, min, eqb, length, set}
+use Rattle.std.specs.Prelude.{◌≡◌, List, ◌&&◌, ℕ, ◌-◌, min, eqb, length, set}
 use Rattle.refusal.specs.Choice.{if◌then◌else◌}
 use Rattle.refusal.specs.Loop.{loop}
 use Rattle.rules.specs.declared.Answer.TheVariants.{Done}

@@ -6,8 +6,8 @@ use Rattle.rules.specs.declared.Reply.{Reply}
 use Rattle.rules.specs.declared.Slot.{Slot}
 use Rattle.rules.specs.Card.{small}
 use Rattle.rules.specs.Slots.{Tables}
-use Rattle.rules.specs.Requests.{Request, Call, starting, on}
-use Rattle.rules.specs.Calls.{Step, call}
+use Rattle.rules.specs.Requests.{Call}
+use Rattle.rules.specs.Calls.{call}
 
 -- "The host lends 64 pair records .., the free queue's ends and a lent row of 256 slot records": or as many as it does
 abbrev pub lent : List Pair → Ends → List Slot → Tables

@@ -67,7 +67,7 @@ pub(crate) fn audit_pairs(pairs: &mut [Pair], slots: &mut [Slot], start: Auditin
 }
 
 pub(crate) fn audit_tables(pairs: &mut [Pair], slots: &mut [Slot], e: Ends) -> Audited
-    ensures { (result ≡ audited (record { pairs = pairs.entry.now; ends = e; slots = slots.old })) × ((pairs.exit.now ≡ pairs.entry.now) × (slots.new ≡ slots.old)) }
+    ensures { (result ≡ audited (record { pairs = pairs.old; ends = e; slots = slots.old })) × ((pairs.new ≡ pairs.old) × (slots.new ≡ slots.old)) }
 {
     let start = begin_audit(pairs.len(), slots.len());
     let v = audit_pairs(pairs, slots, start);
