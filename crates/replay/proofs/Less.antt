@@ -1,12 +1,9 @@
 -- Each turn leaves fewer turns.
-use mathlib.Core.Path.{◌≡◌, refl, ap}
-use mathlib.Core.Bool.{Bool}
 use mathlib.Core.List.{List}
 use Prim.Native.Nat.{ℕ, ◌-◌, ◌<◌}
 use native.Mathlib.Omega.{arith}
 use lib.Dec.{ltb}
 use lib.ListN.{get_or}
-use Rattle.refusal.specs.Choice.{if◌then◌else◌}
 use Rattle.refusal.proofs.Cases.{if-case}
 use Rattle.rules.specs.declared.Pair.{Pair}
 use Rattle.rules.specs.declared.Slot.{Slot}

@@ -2,4 +2,3 @@ mod Past
 pub mod Less
 pub mod Text
 pub mod Lines
-mod Types

@@ -1,5 +1,5 @@
 -- Each line has its own bytes: what stands between two newlines is kept, and then answered. Assumes nothing.
-use mathlib.Core.Path.{◌≡◌, refl, sym, ap, ◌∙◌}
+use mathlib.Core.Path.{◌≡◌, refl, ap, ◌∙◌}
 use mathlib.Core.Bool.{Bool, false}
 use mathlib.Core.List.{List, [], ◌∷◌, ◌++◌}
 use Prim.Native.Nat.{ℕ, zero, suc, ◌+◌, ◌-◌, ◌^◌, ◌≤◌, ◌<◌, min}
@@ -9,7 +9,7 @@ use lib.Seq.{take-suc-set}
 use borrow.Author.Tests.{lt-ltb}
 use Rattle.refusal.specs.Choice.{if◌then◌else◌, Each}
 use Rattle.refusal.proofs.Loop.{loop-more}
-use Rattle.replay.specs.Kept.{is_end, kept_by}
+use Rattle.replay.specs.Kept.{is_end}
 use Rattle.replay.specs.Serving.{Desk, answered, kept_in, fed, fed_all}
 use Rattle.replay.proofs.Less.{fed-less}
 

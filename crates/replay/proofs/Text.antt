@@ -1,11 +1,10 @@
 -- What a line writes, as one text: what stands for it alone, then what it answers of the tables. Assumes nothing.
-use mathlib.Core.Path.{◌≡◌, refl, sym, ap, ◌∙◌}
+use mathlib.Core.Path.{◌≡◌, refl, ap, ◌∙◌}
 use mathlib.Core.Bool.{Bool, true, false}
-use mathlib.Core.List.{List, [], ◌∷◌, ◌++◌}
+use mathlib.Core.List.{List, [], ◌++◌}
 use Prim.Native.Nat.{ℕ, zero, suc, ◌-◌, ◌<◌}
 use native.Mathlib.Omega.{arith}
 use lib.ListN.{take}
-use Rattle.refusal.specs.Loop.{loop}
 use Rattle.refusal.proofs.Loop.{loop-done, loop-more}
 use Rattle.text.specs.Out.{Out, out, put_all}
 use Rattle.text.proofs.Putting.{put_then}

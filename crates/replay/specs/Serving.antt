@@ -1,9 +1,8 @@
 -- What the program does with its tables and buffers, line by line.
-use Rattle.std.specs.Prelude.{ℕ, ◌+◌, ◌-◌, ◌<◌, min, ◌≡◌, Bool, true, false, List, [], ◌++◌, eqb, ltb, length, get_or, set, take}
+use Rattle.std.specs.Prelude.{ℕ, ◌+◌, ◌-◌, min, ◌≡◌, true, false, List, [], ◌++◌, length, get_or, set, take}
 use Rattle.refusal.specs.Choice.{if◌then◌else◌}
 use Rattle.refusal.specs.Loop.{loop}
 use Rattle.text.specs.Out.{Out, out, put_all}
-use Rattle.rules.specs.declared.Answer.TheVariants.{Done}
 use Rattle.rules.specs.declared.Ends.{Ends}
 use Rattle.rules.specs.declared.Pair.{Pair}
 use Rattle.rules.specs.declared.Reply.{Reply}

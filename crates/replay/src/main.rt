@@ -13,8 +13,12 @@ use card::{fresh_start, no_pair, no_slot};
 use keeping::{begin, no_ends};
 use serving::serve;
 
+// The bytes that one read may bring, and those that may wait to be written.
+const LARGE: usize = 65536;
+
 // The tables are as after a fresh start before the first line.
 fn keep_tables(
+    rt: &HostRuntime,
     numbers: &mut [u32],
     bytes: &mut [u8],
     input: &mut [u8],
@@ -29,15 +33,22 @@ fn keep_tables(
     fresh_start(&mut pairs, &mut ends, &mut slots);
     let start = begin();
     serve(
-        &mut pairs, &mut ends, &mut slots, numbers, bytes, input, line, out, start,
+        rt, &mut pairs, &mut ends, &mut slots, numbers, bytes, input, line, out, start,
     );
 }
 
-fn main() {
+fn main(rt: HostRuntime) {
     let mut numbers = [0u32; 2048];
     let mut bytes = [0u8; 8192];
-    let mut input = io::large_buffer();
+    let mut input = [0u8; LARGE];
     let mut line = [0u8; 20001];
-    let mut out = io::large_buffer();
-    keep_tables(&mut numbers, &mut bytes, &mut input, &mut line, &mut out);
+    let mut out = [0u8; LARGE];
+    keep_tables(
+        &rt,
+        &mut numbers,
+        &mut bytes,
+        &mut input,
+        &mut line,
+        &mut out,
+    );
 }

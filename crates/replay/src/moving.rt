@@ -2,7 +2,7 @@
 ghost use Rattle.std.specs.Prelude.{◌<◌};
 
 use crate::keeping::Place;
-use libc::{STDIN_FILENO, STDOUT_FILENO};
+use std::io::{Print, Read};
 use text::front;
 
 // What is collected before it is written out.
@@ -18,12 +18,12 @@ fn taken(w: Place, left: usize, from: usize, more: bool) -> Place {
 }
 
 // What waits of the bytes that were read, or else a read. At the input's end the last line, which has perhaps no newline, is given one.
-pub(crate) fn fetch(input: &mut [u8], w: Place) -> Place {
+pub(crate) fn fetch(rt: &HostRuntime, input: &mut [u8], w: Place) -> Place {
     if 0 < w.rest {
         return taken(w, w.rest, w.from, w.more);
     }
-    let got = libc::read(STDIN_FILENO, input);
-    if got <= 0 {
+    let got = rt.stdin().read(input).unwrap_or(0);
+    if got == 0 {
         if 0 < w.kept {
             if 0 < input.len() {
                 input[0] = b'\n';
@@ -32,7 +32,7 @@ pub(crate) fn fetch(input: &mut [u8], w: Place) -> Place {
         }
         return taken(w, 0, 0, false);
     }
-    taken(w, io::count(got, &input[..]), 0, true)
+    taken(w, got, 0, true)
 }
 
 fn fewer_turns(b: Place, w: Place, going: bool) -> Place
@@ -49,14 +49,14 @@ fn fewer_turns(b: Place, w: Place, going: bool) -> Place
 }
 
 // Writes out what is collected, where that is much or nothing more comes. Where a write fails, the rest is left.
-pub(crate) fn flush(out: &mut [u8], b: Place, w: Place) -> Place
+pub(crate) fn flush(rt: &HostRuntime, out: &mut [u8], b: Place, w: Place) -> Place
     ensures { 0 < w.turns → result.turns < w.turns }
 {
     let goes_on = b.more || 0 < b.rest;
     if goes_on && b.at <= HALF {
         return fewer_turns(b, w, true);
     }
-    let well = io::write_all(STDOUT_FILENO, front(&out[..], b.at));
+    let well = rt.stdout().write_all(front(&out[..], b.at)).is_ok();
     let mut next = b;
     next.at = 0;
     fewer_turns(next, w, well && goes_on)

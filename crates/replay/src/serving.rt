@@ -54,6 +54,7 @@ pub(crate) fn feed(
 
 // Reads once where nothing of what was read waits, answers as many lines as there is room for, and writes out what is collected.
 pub(crate) fn turn(
+    rt: &HostRuntime,
     pairs: &mut [Pair],
     ends: &mut Ends,
     slots: &mut [Slot],
@@ -66,12 +67,13 @@ pub(crate) fn turn(
 ) -> Place
     ensures { 0 < w.turns → result.turns < w.turns }
 {
-    let a = fetch(input, w);
+    let a = fetch(rt, input, w);
     let b = feed(pairs, ends, slots, numbers, bytes, input, line, out, a);
-    flush(out, b, w)
+    flush(rt, out, b, w)
 }
 
 pub(crate) fn serve(
+    rt: &HostRuntime,
     pairs: &mut [Pair],
     ends: &mut Ends,
     slots: &mut [Slot],
@@ -84,7 +86,7 @@ pub(crate) fn serve(
 ) -> Place {
     let mut w = start;
     while w.turns > 0 {
-        w = turn(pairs, ends, slots, numbers, bytes, input, line, out, w);
+        w = turn(rt, pairs, ends, slots, numbers, bytes, input, line, out, w);
     }
     w
 }
