@@ -1,4 +1,4 @@
-// The exported calls. A slice is a pointer and a count in C.
+// The calls, with answers and posts as flat records of numbers.
 ghost use Rattle.std.specs.Prelude.{◌≡◌};
 ghost use Rattle.rules.specs.Card.{small};
 ghost use Rattle.rules.specs.Requests.{opening, posting, emitting, acknowledging, responding, ticking, closing, starting, on};
@@ -10,8 +10,7 @@ use crate::flat::{number_if, post_of, said_of};
 use crate::{Posted, Said};
 use rules::{Ends, Pair, Settings, Slot};
 
-#[unsafe(no_mangle)]
-pub extern "C" fn kamusseori_audit(pairs: &mut [Pair], ends: &mut Ends, slots: &mut [Slot]) -> u32
+pub fn kamusseori_audit(pairs: &mut [Pair], ends: &mut Ends, slots: &mut [Slot]) -> u32
     ensures { (result ≡ number_if (passes small (lent pairs.old ends.old slots.old)))
         × ((pairs.new ≡ pairs.old) × ((ends.new ≡ ends.old) × (slots.new ≡ slots.old))) }
 {
@@ -19,8 +18,7 @@ pub extern "C" fn kamusseori_audit(pairs: &mut [Pair], ends: &mut Ends, slots: &
     number_if(passed)
 }
 
-#[unsafe(no_mangle)]
-pub extern "C" fn kamusseori_fresh(pairs: &mut [Pair], ends: &mut Ends, slots: &mut [Slot]) -> Said
+pub fn kamusseori_fresh(pairs: &mut [Pair], ends: &mut Ends, slots: &mut [Slot]) -> Said
     ensures { Says starting (lent pairs.old ends.old slots.old)
         result pairs.new ends.new slots.new }
 {
@@ -28,8 +26,7 @@ pub extern "C" fn kamusseori_fresh(pairs: &mut [Pair], ends: &mut Ends, slots: &
     said_of(reply)
 }
 
-#[unsafe(no_mangle)]
-pub extern "C" fn kamusseori_open(
+pub fn kamusseori_open(
     pairs: &mut [Pair],
     ends: &mut Ends,
     slots: &mut [Slot],
@@ -44,8 +41,7 @@ pub extern "C" fn kamusseori_open(
     said_of(reply)
 }
 
-#[unsafe(no_mangle)]
-pub extern "C" fn kamusseori_post(
+pub fn kamusseori_post(
     pairs: &mut [Pair],
     ends: &mut Ends,
     slots: &mut [Slot],
@@ -60,8 +56,7 @@ pub extern "C" fn kamusseori_post(
     said_of(reply)
 }
 
-#[unsafe(no_mangle)]
-pub extern "C" fn kamusseori_emit(
+pub fn kamusseori_emit(
     pairs: &mut [Pair],
     ends: &mut Ends,
     slots: &mut [Slot],
@@ -76,8 +71,7 @@ pub extern "C" fn kamusseori_emit(
     said_of(reply)
 }
 
-#[unsafe(no_mangle)]
-pub extern "C" fn kamusseori_acknowledge(
+pub fn kamusseori_acknowledge(
     pairs: &mut [Pair],
     ends: &mut Ends,
     slots: &mut [Slot],
@@ -93,8 +87,7 @@ pub extern "C" fn kamusseori_acknowledge(
     said_of(reply)
 }
 
-#[unsafe(no_mangle)]
-pub extern "C" fn kamusseori_response(
+pub fn kamusseori_response(
     pairs: &mut [Pair],
     ends: &mut Ends,
     slots: &mut [Slot],
@@ -111,8 +104,7 @@ pub extern "C" fn kamusseori_response(
     said_of(reply)
 }
 
-#[unsafe(no_mangle)]
-pub extern "C" fn kamusseori_timer(
+pub fn kamusseori_timer(
     pairs: &mut [Pair],
     ends: &mut Ends,
     slots: &mut [Slot],
@@ -127,8 +119,7 @@ pub extern "C" fn kamusseori_timer(
     said_of(reply)
 }
 
-#[unsafe(no_mangle)]
-pub extern "C" fn kamusseori_close(
+pub fn kamusseori_close(
     pairs: &mut [Pair],
     ends: &mut Ends,
     slots: &mut [Slot],
