@@ -1,6 +1,5 @@
 -- The lines of a trace as calls, and what it means that the second program and the definitions agree on them.
-use Rattle.std.specs.Prelude.{◌≡◌, List, [], ◌∷◌, map, ℕ, zero, suc, ◌*◌, ◌/◌, eqb, ltb, replicate, take, drop}
-use Rattle.refusal.specs.Choice.{if◌then◌else◌}
+use Rattle.std.specs.Prelude.{◌≡◌, List, [], ◌∷◌, map, ℕ, zero, suc, ◌*◌, ◌/◌, eqb, ltb, replicate, take, drop, if◌then◌else◌}
 use Rattle.wire.specs.Bytes.{number}
 use Rattle.rules.specs.declared.Reply.{Reply}
 use Rattle.rules.specs.declared.Reply.TheVariants.{Refused, Answered, First, Count}

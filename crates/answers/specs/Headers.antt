@@ -1,6 +1,5 @@
 -- What `write` and `read` answer, from "Calls" of the trace protocol. Assumes nothing.
-use Rattle.std.specs.Prelude.{ℕ, suc, ◌-◌, ◌^◌, Bool, true, ◌&&◌, List, [], ◌∷◌, ◌++◌, leb, get_or}
-use Rattle.refusal.specs.Choice.{if◌then◌else◌}
+use Rattle.std.specs.Prelude.{ℕ, suc, ◌-◌, ◌^◌, Bool, true, ◌&&◌, List, [], ◌∷◌, ◌++◌, leb, get_or, if◌then◌else◌}
 use Rattle.text.specs.Text.{bytes}
 use Rattle.text.specs.Hex.{hex_text}
 use Rattle.wire.specs.declared.Header.{Header}

@@ -1,6 +1,5 @@
 -- What `show` and `free` write, from "Calls" of the trace protocol. Assumes nothing.
-use Rattle.std.specs.Prelude.{ℕ, List, [], ◌∷◌, ◌++◌, eqb}
-use Rattle.refusal.specs.Choice.{if◌then◌else◌}
+use Rattle.std.specs.Prelude.{ℕ, List, [], ◌∷◌, ◌++◌, eqb, if◌then◌else◌}
 use Rattle.text.specs.Text.{bytes}
 use Rattle.text.specs.Out.{decimal}
 use Rattle.rules.specs.declared.Pair.{Pair}

@@ -1,4 +1,5 @@
 -- The steps along the tables answer exactly whether the audit holds, and how many slots the open pairs claim.
+use Rattle.std.specs.Prelude.{if◌then◌else◌}
 use mathlib.Core.Path.{◌≡◌, refl, sym, ap, ◌∙◌}
 use mathlib.Core.Bool.{Bool, true, false}
 use mathlib.Core.Logic.{◌↔◌}
@@ -6,7 +7,6 @@ use native.Mathlib.Omega.{arith}
 use lib.Dec.{eqb}
 use borrow.Author.Tests.{eqb-true, eq-eqb}
 use lib.ListN.{length}
-use Rattle.refusal.specs.Choice.{if◌then◌else◌}
 use Rattle.refusal.proofs.Cases.{by-test}
 use Rattle.rules.specs.declared.carried.Tally.{Tally}
 use Rattle.rules.specs.declared.carried.Trail.{Trail}

@@ -1,10 +1,10 @@
 -- A ready pair's record: its bounds, then its times; and what the bounds say of its settings.
+use Rattle.std.specs.Prelude.{if◌then◌else◌}
 use mathlib.Core.Path.{◌≡◌, refl, ap, ◌∙◌}
 use mathlib.Core.Bool.{Bool, true, false}
 use Prim.Native.Nat.{ℕ}
 use lib.Dec.{leb, eqb}
 use borrow.Author.Tests.{not-true}
-use Rattle.refusal.specs.Choice.{if◌then◌else◌}
 use Rattle.refusal.proofs.Cases.{by-test, not-both}
 use Rattle.rules.specs.declared.Standing.{Standing}
 use Rattle.rules.specs.Card.{small}

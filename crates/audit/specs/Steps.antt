@@ -1,6 +1,5 @@
 -- What each function of `src/` answers: the audit's steps, on one record at a time.
-use Rattle.std.specs.Prelude.{Bool, ℕ, ◌+◌, ◌-◌, leb, eqb}
-use Rattle.refusal.specs.Choice.{if◌then◌else◌}
+use Rattle.std.specs.Prelude.{Bool, ℕ, ◌+◌, ◌-◌, leb, eqb, if◌then◌else◌}
 use Rattle.rules.specs.declared.Ends.{Ends}
 use Rattle.rules.specs.declared.Pair.{Pair}
 use Rattle.rules.specs.declared.Queue.{Queue}

@@ -1,6 +1,5 @@
 // The messages of a ready pair: each record goes on with the message that the one before left open, or begins one.
-ghost use Rattle.std.specs.Prelude.{◌≡◌, true, suc, ◌≤◌, ◌<◌, ltb, leb, eqb};
-ghost use Rattle.refusal.specs.Choice.{if◌then◌else◌};
+ghost use Rattle.std.specs.Prelude.{◌≡◌, true, suc, ◌≤◌, ◌<◌, ltb, leb, eqb, if◌then◌else◌};
 ghost use Rattle.rules.specs.Message.{pmtu, packets_for, packet_at};
 ghost use Rattle.rules.specs.Passes.Stage.{same, allowed_to, alone, single, heading, opens, begun, new_message};
 ghost use Rattle.rules.specs.Passes.Stage.{post_of, more, goes_on, closes, inner, is_rear, behind, stage_step, stage_ends};

@@ -1,6 +1,5 @@
 // The order of a ready pair's packets: each starts where the one before ended, by its distance from U.
-ghost use Rattle.std.specs.Prelude.{◌≡◌, ◌+◌, ◌-◌, leb};
-ghost use Rattle.refusal.specs.Choice.{if◌then◌else◌};
+ghost use Rattle.std.specs.Prelude.{◌≡◌, ◌+◌, ◌-◌, leb, if◌then◌else◌};
 ghost use Rattle.psn.specs.Psn.{distance};
 ghost use Rattle.rules.specs.Message.{span};
 ghost use Rattle.rules.specs.Passes.Course.{course_from, astray, onward, first_fits, next_fits, course_step, stands, line_fits, course_ends};

@@ -1,6 +1,5 @@
 // All queues: which slots were a queue's last, how many slots are held and claimed, and whether all passed.
-ghost use Rattle.std.specs.Prelude.{◌≡◌, false, ◌+◌, ◌/◌, ◌%◌, ◌^◌, ◌≤◌, ◌<◌, max, leb, get_or, set};
-ghost use Rattle.refusal.specs.Choice.{if◌then◌else◌};
+ghost use Rattle.std.specs.Prelude.{◌≡◌, false, ◌+◌, ◌/◌, ◌%◌, ◌^◌, ◌≤◌, ◌<◌, max, leb, get_or, set, if◌then◌else◌};
 ghost use Rattle.rules.specs.Card.{small};
 ghost use Rattle.rules.specs.Passes.Tables.{has, put, claim_by, add_queue, failed, is_new, tally_from, tally_fits, tally_step};
 ghost use Rattle.rules.specs.Passes.Tests.{◌and◌};

@@ -1,4 +1,5 @@
 -- A fresh start: each record of a table is written once, from the last to the first, and then the tables are the rules' fresh ones.
+use Rattle.std.specs.Prelude.{if◌then◌else◌}
 use mathlib.Core.Path.{◌≡◌, refl, ap, ◌∙◌}
 use mathlib.Core.Bool.{Bool, true, false, ◌&&◌}
 use mathlib.Core.List.{List, [], ◌∷◌, ◌++◌, map}
@@ -6,7 +7,6 @@ use Prim.Native.Nat.{ℕ, zero, suc, ◌+◌, ◌-◌, ◌≤◌, ◌<◌}
 use native.Mathlib.Omega.{arith}
 use lib.Dec.{eqb}
 use borrow.Author.Tests.{eqb-true}
-use Rattle.refusal.specs.Choice.{if◌then◌else◌}
 use lib.ListN.{length, set, drop, length-set}
 use Rattle.refusal.proofs.Loop.{loop-done, loop-more}
 use Rattle.rules.specs.Message.{from}

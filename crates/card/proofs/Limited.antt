@@ -1,11 +1,11 @@
 -- A call that may use a part of each lent buffer answers, and leaves the tables, as the rules' call does that is lent just that part.
+use Rattle.std.specs.Prelude.{if◌then◌else◌}
 use mathlib.Core.Path.{◌≡◌, refl, sym, ap, ◌∙◌}
 use mathlib.Core.Bool.{Bool, true, false}
 use mathlib.Core.List.{List}
 use Prim.Native.Nat.{ℕ, zero, suc, min}
 use lib.Dec.{ltb}
 use lib.ListN.{length, set, take, length-take}
-use Rattle.refusal.specs.Choice.{if◌then◌else◌}
 use Rattle.refusal.specs.Loop.{while-of}
 use Rattle.rules.specs.declared.Slot.{Slot}
 use Rattle.rules.specs.Slots.{Tables, slot_at, pair_at}

@@ -1,6 +1,5 @@
 -- What private functions promise one another; nobody need believe it.
-use Rattle.std.specs.Prelude.{◌≡◌, List, ◌&&◌, ℕ, ◌-◌, min, eqb, length, set}
-use Rattle.refusal.specs.Choice.{if◌then◌else◌}
+use Rattle.std.specs.Prelude.{◌≡◌, List, ◌&&◌, ℕ, ◌-◌, min, eqb, length, set, if◌then◌else◌}
 use Rattle.refusal.specs.Loop.{loop}
 use Rattle.rules.specs.declared.Answer.TheVariants.{Done}
 use Rattle.rules.specs.declared.Ends.{Ends}

@@ -1,4 +1,5 @@
 -- The plan of a request that is not refused does what the rules' effect says.
+use Rattle.std.specs.Prelude.{if◌then◌else◌}
 use mathlib.Core.Path.{◌≡◌, refl, sym, ap, ◌∙◌}
 use mathlib.Core.Bool.{true, false, not, ◌&&◌}
 use mathlib.Core.List.{List}
@@ -9,7 +10,6 @@ use lib.Dec.{ltb, eqb}
 use borrow.Author.Tests.{ltb-true, ltb-false, leb-false, eqb-false}
 use lib.ListN.{length, length-drop}
 use Rattle.psn.specs.Psn.{psns, before}
-use Rattle.refusal.specs.Choice.{if◌then◌else◌}
 use Rattle.refusal.proofs.Cases.{by-test, or_left, and_left, and_right}
 use Rattle.refusal.proofs.Each.{each_at}
 use Rattle.rules.specs.declared.Answer.{Answer}

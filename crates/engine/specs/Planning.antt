@@ -1,6 +1,5 @@
 -- What a call is to do: nothing, where it is refused; else what the rules say, as an answer, the pair's next standing and a walk.
-use Rattle.std.specs.Prelude.{ℕ, ◌%◌, ◌^◌, min, ltb, eqb}
-use Rattle.refusal.specs.Choice.{if◌then◌else◌}
+use Rattle.std.specs.Prelude.{ℕ, ◌%◌, ◌^◌, min, ltb, eqb, if◌then◌else◌}
 use Rattle.rules.specs.declared.Answer.TheVariants.{Done}
 use Rattle.rules.specs.declared.Ends.{Ends}
 use Rattle.rules.specs.declared.Outcome.{Outcome}

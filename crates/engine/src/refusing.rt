@@ -1,7 +1,6 @@
 // The refusals of a request, in the order of the rules' one list: the first row that holds gives its number. Sums are in 64 bits, so that none runs over.
-ghost use Rattle.std.specs.Prelude.{◌≡◌, not, ◌&&◌, ◌||◌, [], ◌∷◌, ◌+◌, ◌*◌, ◌≤◌, max, ltb, eqb, drop};
+ghost use Rattle.std.specs.Prelude.{◌≡◌, not, ◌&&◌, ◌||◌, [], ◌∷◌, ◌+◌, ◌*◌, ◌≤◌, max, ltb, eqb, drop, if◌then◌else◌};
 ghost use Rattle.psn.specs.Psn.{half, distance};
-ghost use Rattle.refusal.specs.Choice.{if◌then◌else◌};
 ghost use Rattle.refusal.specs.Refusals.{◌gives◌, first_given};
 ghost use Rattle.rules.specs.Account.{closed, ready};
 ghost use Rattle.rules.specs.Card.{small, completion_buffer};

@@ -1,7 +1,6 @@
 // The scan of a pair's queue before a call decides: what each call seeks, and one slot of the walk that seeks it.
-ghost use Rattle.std.specs.Prelude.{◌≡◌, ◌||◌};
+ghost use Rattle.std.specs.Prelude.{◌≡◌, ◌||◌, if◌then◌else◌};
 ghost use Rattle.message.specs.Capped.{tidy};
-ghost use Rattle.refusal.specs.Choice.{if◌then◌else◌};
 ghost use Rattle.rules.specs.Acknowledge.{inside};
 ghost use Rattle.outcomes.specs.Finding.{bound_of};
 ghost use Rattle.outcomes.specs.Deciding.{bare};

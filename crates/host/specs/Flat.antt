@@ -1,6 +1,5 @@
 -- Answers and posts as a C driver has them, and what a call leaves of all that it was lent.
-use Rattle.std.specs.Prelude.{◌≡◌, Bool, List, ℕ, ltb, eqb}
-use Rattle.refusal.specs.Choice.{if◌then◌else◌}
+use Rattle.std.specs.Prelude.{◌≡◌, Bool, List, ℕ, ltb, eqb, if◌then◌else◌}
 use Rattle.rules.specs.declared.Ends.{Ends}
 use Rattle.rules.specs.declared.Pair.{Pair}
 use Rattle.rules.specs.declared.Post.{Post}

@@ -1,4 +1,5 @@
 -- A post's places are its split, and nothing is cut of a post that is allowed or of what an audited pair holds.
+use Rattle.std.specs.Prelude.{if◌then◌else◌}
 use mathlib.Core.Path.{◌≡◌, refl, sym}
 use mathlib.Core.Bool.{Bool, true, false}
 use mathlib.Core.List.{[], ◌∷◌, map, append-nil}
@@ -7,7 +8,7 @@ use native.Mathlib.Omega.{arith}
 use native.Mathlib.Nat.{zero-add, add-zero, add-suc, suc-add, le_of_suc-le-suc, not-suc-le-zero, mod-eq_of_lt}
 use lib.Dec.{eqb}
 use borrow.Author.Tests.{eq-eqb, eqb-true, eqb-false}
-use Rattle.refusal.specs.Choice.{if◌then◌else◌, Each}
+use Rattle.refusal.specs.Choice.{Each}
 use Rattle.refusal.proofs.Cases.{by-test, if-case}
 use Rattle.psn.specs.Psn.{distance}
 use Rattle.rules.specs.declared.Packet.{Packet}

@@ -1,6 +1,5 @@
 -- A post's packets by their places, and what is sent of a packet.
-use Rattle.std.specs.Prelude.{ℕ, ◌%◌, ◌^◌, eqb}
-use Rattle.refusal.specs.Choice.{if◌then◌else◌}
+use Rattle.std.specs.Prelude.{ℕ, ◌%◌, ◌^◌, eqb, if◌then◌else◌}
 use Rattle.rules.specs.declared.Packet.{Packet}
 use Rattle.rules.specs.declared.Settings.{Settings}
 use Rattle.rules.specs.declared.Post.{Post}

@@ -1,6 +1,5 @@
 // What an opcode carries, by comparisons, which cost less than a row of wire's table, and the opcode of each place of a message.
-ghost use Rattle.std.specs.Prelude.{◌≡◌, ◌≤◌};
-ghost use Rattle.refusal.specs.Choice.{if◌then◌else◌};
+ghost use Rattle.std.specs.Prelude.{◌≡◌, ◌≤◌, if◌then◌else◌};
 ghost use Rattle.wire.specs.Opcodes.{has_reth, has_immediate, is_last};
 ghost use Rattle.rules.specs.Message.{opcode_at};
 

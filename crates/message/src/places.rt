@@ -1,6 +1,5 @@
 // The packet at a place of a post's split, and a packet as it is emitted. Sums are cut to their fields; on a pair that passes the audit nothing is cut.
-ghost use Rattle.std.specs.Prelude.{◌≡◌, ◌+◌, ◌-◌, ◌*◌, ◌%◌, ◌^◌, ◌≤◌, eqb};
-ghost use Rattle.refusal.specs.Choice.{if◌then◌else◌};
+ghost use Rattle.std.specs.Prelude.{◌≡◌, ◌+◌, ◌-◌, ◌*◌, ◌%◌, ◌^◌, ◌≤◌, eqb, if◌then◌else◌};
 ghost use Rattle.psn.specs.Psn.{distance};
 ghost use Rattle.rules.specs.Message.{pmtu, made, packet_at, unanswered};
 ghost use Rattle.message.specs.Capped.{capped, tidy, cut};

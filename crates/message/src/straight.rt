@@ -1,6 +1,5 @@
 // Tests, choices and differences by a call, so that what calls them is straight code.
-ghost use Rattle.std.specs.Prelude.{◌≡◌, ◌||◌, ◌-◌, min};
-ghost use Rattle.refusal.specs.Choice.{if◌then◌else◌};
+ghost use Rattle.std.specs.Prelude.{◌≡◌, ◌||◌, ◌-◌, min, if◌then◌else◌};
 ghost use Rattle.rules.specs.Passes.Tests.{◌and◌};
 
 pub fn both(a: bool, b: bool) -> bool

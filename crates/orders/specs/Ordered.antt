@@ -1,6 +1,6 @@
 -- What a line asks of the card, from "Reading" and "Calls" of the trace protocol.
-use Rattle.std.specs.Prelude.{ℕ, ◌-◌, ◌^◌, min, Bool, ◌&&◌, List, [], ◌∷◌, ltb, eqb, get_or}
-use Rattle.refusal.specs.Choice.{if◌then◌else◌, any_of}
+use Rattle.std.specs.Prelude.{ℕ, ◌-◌, ◌^◌, min, Bool, ◌&&◌, List, [], ◌∷◌, ltb, eqb, get_or, if◌then◌else◌}
+use Rattle.refusal.specs.Choice.{any_of}
 use Rattle.text.specs.declared.Ask.{Ask}
 use Rattle.text.specs.declared.Ask.TheVariants.{Nothing, Unread, Fresh, Open, Post, Emit, Ack, Response, Timer, Close, Room, Show, Free, Write, Read}
 use Rattle.text.specs.declared.Parsed.{Parsed}

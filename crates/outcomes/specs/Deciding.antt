@@ -1,6 +1,5 @@
 -- The rules for a pair of which a scan has found what they ask for: the same rules, with "the first read" and "the first record that stays" given.
-use Rattle.std.specs.Prelude.{not, ◌&&◌, [], ℕ, ◌-◌, min, ltb}
-use Rattle.refusal.specs.Choice.{if◌then◌else◌}
+use Rattle.std.specs.Prelude.{not, ◌&&◌, [], ℕ, ◌-◌, min, ltb, if◌then◌else◌}
 use Rattle.rules.specs.declared.Answer.TheVariants.{Dropped}
 use Rattle.rules.specs.declared.Outcome.{Outcome}
 use Rattle.rules.specs.declared.Packet.{Packet}

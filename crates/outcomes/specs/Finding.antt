@@ -1,7 +1,6 @@
 -- What a search along a pair's queue comes to: the first packet of a kind.
-use Rattle.std.specs.Prelude.{Bool, List, ℕ, ◌-◌, eqb, length, get_or}
+use Rattle.std.specs.Prelude.{Bool, List, ℕ, ◌-◌, eqb, length, get_or, if◌then◌else◌}
 use Rattle.psn.specs.Psn.{next}
-use Rattle.refusal.specs.Choice.{if◌then◌else◌}
 use Rattle.rules.specs.declared.Packet.{Packet}
 use Rattle.rules.specs.Account.{ahead, no_packet}
 use Rattle.rules.specs.Card.{small}

@@ -1,6 +1,5 @@
 // What an acknowledgement or a read response makes of a pair.
-ghost use Rattle.std.specs.Prelude.{◌≡◌, ◌+◌, ◌≤◌, ◌<◌, min, eqb, get_or};
-ghost use Rattle.refusal.specs.Choice.{if◌then◌else◌};
+ghost use Rattle.std.specs.Prelude.{◌≡◌, ◌+◌, ◌≤◌, ◌<◌, min, eqb, get_or, if◌then◌else◌};
 ghost use Rattle.rules.specs.declared.Answer.TheVariants.{Dropped};
 ghost use Rattle.rules.specs.Outcome.{staying, ended_standing};
 ghost use Rattle.rules.specs.Ranges.{low_bits};

@@ -1,6 +1,5 @@
 // "Timer step with elapsed e".
-ghost use Rattle.std.specs.Prelude.{◌≡◌, ◌+◌, ◌-◌, ◌^◌, ◌≤◌, ltb, leb, eqb};
-ghost use Rattle.refusal.specs.Choice.{if◌then◌else◌};
+ghost use Rattle.std.specs.Prelude.{◌≡◌, ◌+◌, ◌-◌, ◌^◌, ◌≤◌, ltb, leb, eqb, if◌then◌else◌};
 ghost use Rattle.rules.specs.declared.Answer.TheVariants.{Resumed, Idle};
 ghost use Rattle.rules.specs.Outcome.{ending};
 ghost use Rattle.rules.specs.Timer.{timeout_of, ticked, retried, timed};

@@ -1,7 +1,7 @@
 -- Proofs by the two outcomes of a test. Assumes nothing.
+use Rattle.std.specs.Prelude.{if◌then◌else◌}
 use mathlib.Core.Path.{◌≡◌, refl}
 use mathlib.Core.Bool.{Bool, true, false, ◌&&◌, ◌||◌, false≢true, true≢false}
-use Rattle.refusal.specs.Choice.{if◌then◌else◌}
 
 -- each outcome with its equation
 pub by-test {ℓ} : {P : Type ℓ} (t : Bool) → (t ≡ true → P) → (t ≡ false → P) → P
@@ -9,7 +9,7 @@ by-test true f g = f refl
 by-test false f g = g refl
 
 -- of a choice
-pub if-case {ℓ κ} : {A : Type ℓ} (P : A → Type κ) (t : Bool) {a b : A} → (t ≡ true → P a) → (t ≡ false → P b) → P (if t then a else b)
+pub if-case {κ} : {A : Type 0} (P : A → Type κ) (t : Bool) {a b : A} → (t ≡ true → P a) → (t ≡ false → P b) → P (if t then a else b)
 if-case P true f g = f refl
 if-case P false f g = g refl
 

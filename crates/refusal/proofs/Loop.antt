@@ -1,10 +1,10 @@
 -- A loop is x where nothing is left, and the loop from f x where something is, for an f that lowers what is left. Assumes nothing.
+use Rattle.std.specs.Prelude.{if◌then◌else◌}
 use mathlib.Core.Path.{◌≡◌, refl, sym, ap, ◌∙◌}
 use mathlib.Core.Bool.{Bool}
 use Prim.Native.Nat.{ℕ, zero, suc, ◌≤◌, ◌<◌}
 use native.Mathlib.Omega.{arith}
 use borrow.Author.Tests.{lt-ltb, le-ltb}
-use Rattle.refusal.specs.Choice.{if◌then◌else◌}
 use Rattle.refusal.specs.Loop.{while-of, loop}
 
 module _ {X : Type 0} (left : X → ℕ) (f : X → X) (less : (x : X) → 0 < left x → left (f x) < left x) where

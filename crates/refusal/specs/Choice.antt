@@ -1,11 +1,6 @@
--- What every definition above is written with: a choice by a test, one of some tests, one of some numbers, each of a list.
+-- What every definition above is written with: one of some tests, one of some numbers, each of a list.
 -- Assumes nothing.
-use Rattle.std.specs.Prelude.{Bool, false, cond, ◌||◌, List, [], ◌∷◌, ℕ, eqb}
-
--- the library's `cond`, as it is read
-infixr 5 if◌then◌else◌
-abbrev pub if◌then◌else◌ {ℓ} : {A : Type ℓ} → Bool → A → A → A
-if◌then◌else◌ t a b = cond t a b
+use Rattle.std.specs.Prelude.{Bool, false, ◌||◌, List, [], ◌∷◌, ℕ, eqb}
 
 -- one of some tests holds
 abbrev pub any_of : List Bool → Bool

@@ -1,6 +1,5 @@
 -- A loop that goes on while something is left: `loop left f x` applies f as long as left is not 0, and at most left x times. Assumes nothing.
-use Rattle.std.specs.Prelude.{ℕ, zero, suc, ltb}
-use Rattle.refusal.specs.Choice.{if◌then◌else◌}
+use Rattle.std.specs.Prelude.{ℕ, zero, suc, ltb, if◌then◌else◌}
 
 abbrev pub while-of : {X : Type 0} → (X → ℕ) → (X → X) → ℕ → X → X
 while-of left f zero x = x

@@ -1,7 +1,6 @@
 -- "Refusal numbers": a table of rows `test gives number`, of which the first that holds is given.
 -- Assumes nothing.
-use Rattle.std.specs.Prelude.{Bool, List, [], ◌∷◌, ℕ}
-use Rattle.refusal.specs.Choice.{if◌then◌else◌}
+use Rattle.std.specs.Prelude.{Bool, List, [], ◌∷◌, ℕ, if◌then◌else◌}
 
 infix 80 ◌gives◌
 pub record Row : Type 0 where

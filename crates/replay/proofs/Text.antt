@@ -1,4 +1,5 @@
 -- What a line writes, as one text: what stands for it alone, then what it answers of the tables. Assumes nothing.
+use Rattle.std.specs.Prelude.{if◌then◌else◌}
 use mathlib.Core.Path.{◌≡◌, refl, ap, ◌∙◌}
 use mathlib.Core.Bool.{Bool, true, false}
 use mathlib.Core.List.{List, [], ◌++◌}
@@ -12,7 +13,6 @@ use Rattle.rules.specs.declared.Slot.{Slot}
 use Rattle.rules.specs.Slots.{slot_at}
 use Rattle.answers.proofs.Saying.{nothing_put}
 use Rattle.replay.specs.declared.lists.Listing.{Listing}
-use Rattle.refusal.specs.Choice.{if◌then◌else◌}
 use Rattle.rules.specs.declared.Ends.{Ends}
 use Rattle.rules.specs.declared.Pair.{Pair}
 use Rattle.orders.specs.declared.Order.{Order}

@@ -1,6 +1,5 @@
 -- Where the reading stands, and how a line is put together byte by byte, from "Reading" of the trace protocol. Assumes nothing.
-use Rattle.std.specs.Prelude.{ℕ, ◌+◌, ◌-◌, ◌^◌, min, Bool, true, eqb, ltb}
-use Rattle.refusal.specs.Choice.{if◌then◌else◌}
+use Rattle.std.specs.Prelude.{ℕ, ◌+◌, ◌-◌, ◌^◌, min, Bool, true, eqb, ltb, if◌then◌else◌}
 use Rattle.replay.specs.declared.keeping.Place.{Place}
 
 -- "L being its number in the input, from 1"; past the largest number there is none to come

@@ -1,6 +1,5 @@
 -- What the program does with its tables and buffers, line by line.
-use Rattle.std.specs.Prelude.{ℕ, ◌+◌, ◌-◌, min, ◌≡◌, true, false, List, [], ◌++◌, length, get_or, set, take}
-use Rattle.refusal.specs.Choice.{if◌then◌else◌}
+use Rattle.std.specs.Prelude.{ℕ, ◌+◌, ◌-◌, min, ◌≡◌, true, false, List, [], ◌++◌, length, get_or, set, take, if◌then◌else◌}
 use Rattle.refusal.specs.Loop.{loop}
 use Rattle.text.specs.Out.{Out, out, put_all}
 use Rattle.rules.specs.declared.Ends.{Ends}

@@ -1,6 +1,5 @@
 // What a line asks of the tables is carried out by the card.
-ghost use Rattle.std.specs.Prelude.{◌≡◌, []};
-ghost use Rattle.refusal.specs.Choice.{if◌then◌else◌};
+ghost use Rattle.std.specs.Prelude.{◌≡◌, [], if◌then◌else◌};
 ghost use Rattle.rules.specs.Card.{small};
 ghost use Rattle.rules.specs.Requests.{starting};
 ghost use Rattle.rules.specs.Calls.{call as Calls·call};

@@ -1,7 +1,6 @@
 -- "That account is its own definition: per pair a list of packets, settings, PSNs, counts and times, with no slot number, link or free queue."
-use Rattle.std.specs.Prelude.{Bool, List, [], ◌∷◌, ℕ, suc}
+use Rattle.std.specs.Prelude.{Bool, List, [], ◌∷◌, ℕ, suc, if◌then◌else◌}
 use Rattle.psn.specs.Psn.{before}
-use Rattle.refusal.specs.Choice.{if◌then◌else◌}
 use Rattle.rules.specs.declared.Packet.{Packet}
 use Rattle.rules.specs.declared.Line.{Line}
 use Rattle.rules.specs.declared.Clock.{Clock}

@@ -1,7 +1,6 @@
 -- Acknowledgements: ACK, NAK, RNR.
-use Rattle.std.specs.Prelude.{Bool, not, ◌&&◌, List, [], ◌∷◌, ℕ, ◌-◌, ◌*◌, ltb, leb, eqb, length, get_or}
+use Rattle.std.specs.Prelude.{Bool, not, ◌&&◌, List, [], ◌∷◌, ℕ, ◌-◌, ◌*◌, ltb, leb, eqb, length, get_or, if◌then◌else◌}
 use Rattle.psn.specs.Psn.{distance, next}
-use Rattle.refusal.specs.Choice.{if◌then◌else◌}
 use Rattle.rules.specs.declared.Settings.{Settings}
 use Rattle.rules.specs.declared.Standing.{Standing}
 use Rattle.rules.specs.declared.Answer.TheVariants.{Done, Resending, Held, Ended}

@@ -1,6 +1,5 @@
 -- What a call does: to the account, where no slot, link or free queue is; and to the tables, by way of the slots. Both by the same refusals and rules.
-use Rattle.std.specs.Prelude.{not, ◌&&◌, List, [], ◌∷◌, ◌++◌, ℕ, ◌+◌, eqb, length, set, drop, replicate}
-use Rattle.refusal.specs.Choice.{if◌then◌else◌}
+use Rattle.std.specs.Prelude.{not, ◌&&◌, List, [], ◌∷◌, ◌++◌, ℕ, ◌+◌, eqb, length, set, drop, replicate, if◌then◌else◌}
 use Rattle.refusal.specs.Refusals.{◌gives◌, first_given}
 use Rattle.rules.specs.declared.Packet.{Packet}
 use Rattle.rules.specs.declared.Standing.{Standing}

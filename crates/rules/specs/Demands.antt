@@ -1,7 +1,6 @@
 -- The three demands on the requester, as statements about `call`. Their proofs are in proofs/Demands.
-use Rattle.std.specs.Prelude.{◌≡◌, ◌↔◌, ◌≢◌, false, ◌&&◌, List, [], ◌∷◌, ◌++◌, map, ℕ, ◌+◌, ◌*◌, ◌≤◌, ◌<◌, min, ltb, length, take, drop}
+use Rattle.std.specs.Prelude.{◌≡◌, ◌↔◌, ◌≢◌, false, ◌&&◌, List, [], ◌∷◌, ◌++◌, map, ℕ, ◌+◌, ◌*◌, ◌≤◌, ◌<◌, min, ltb, length, take, drop, if◌then◌else◌}
 use Rattle.psn.specs.Psn.{half, distance, before}
-use Rattle.refusal.specs.Choice.{if◌then◌else◌}
 use Rattle.refusal.specs.Refusals.{first_given}
 use Rattle.rules.specs.declared.Packet.{Packet}
 use Rattle.rules.specs.declared.Line.{Line}

@@ -1,7 +1,6 @@
 -- Emission: which packets go out, where X and H come to stand, and the records that are written.
-use Rattle.std.specs.Prelude.{List, [], ◌∷◌, ◌++◌, ℕ, ◌+◌, ◌-◌, ◌*◌, ◌%◌, min, ltb, length, take, drop}
+use Rattle.std.specs.Prelude.{List, [], ◌∷◌, ◌++◌, ℕ, ◌+◌, ◌-◌, ◌*◌, ◌%◌, min, ltb, length, take, drop, if◌then◌else◌}
 use Rattle.psn.specs.Psn.{distance, plus, before}
-use Rattle.refusal.specs.Choice.{if◌then◌else◌}
 use Rattle.wire.specs.declared.Header.{Header}
 use Rattle.wire.specs.Bytes.{bytes}
 use Rattle.wire.specs.Opcodes.{header_length}

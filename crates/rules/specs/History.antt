@@ -1,6 +1,5 @@
 -- "Demand 3's "accepted" and "released" (flushed included) are demand 2's rules run over the history since the last fresh start."
-use Rattle.std.specs.Prelude.{◌&&◌, List, [], ◌∷◌, ◌++◌, ℕ, ◌*◌, eqb, take}
-use Rattle.refusal.specs.Choice.{if◌then◌else◌}
+use Rattle.std.specs.Prelude.{◌&&◌, List, [], ◌∷◌, ◌++◌, ℕ, ◌*◌, eqb, take, if◌then◌else◌}
 use Rattle.refusal.specs.Refusals.{first_given}
 use Rattle.rules.specs.declared.Packet.{Packet}
 use Rattle.rules.specs.declared.Reply.{Reply}

@@ -1,7 +1,6 @@
 -- The packets of a message, and a post's split into them.
-use Rattle.std.specs.Prelude.{Bool, List, [], ◌∷◌, map, ℕ, zero, suc, ◌+◌, ◌-◌, ◌*◌, ◌/◌, ◌^◌, ltb, eqb}
+use Rattle.std.specs.Prelude.{Bool, List, [], ◌∷◌, map, ℕ, zero, suc, ◌+◌, ◌-◌, ◌*◌, ◌/◌, ◌^◌, ltb, eqb, if◌then◌else◌}
 use Rattle.psn.specs.Psn.{distance, plus}
-use Rattle.refusal.specs.Choice.{if◌then◌else◌}
 use Rattle.wire.specs.Opcodes as opcodes
 use Rattle.wire.specs.Opcodes.{has_reth, has_immediate}
 use Rattle.rules.specs.declared.Packet.{Packet}

@@ -1,6 +1,5 @@
 -- A pool that holders share: the audit's last sum, and what refusal 8 asks. Over any pool; slots are one.
-use Rattle.std.specs.Prelude.{Bool, ◌||◌, List, [], ◌∷◌, map, ℕ, ◌+◌, max, ltb, eqb, length, set}
-use Rattle.refusal.specs.Choice.{if◌then◌else◌}
+use Rattle.std.specs.Prelude.{Bool, ◌||◌, List, [], ◌∷◌, map, ℕ, ◌+◌, max, ltb, eqb, length, set, if◌then◌else◌}
 use Rattle.rules.specs.Account.{Side, closed}
 
 -- what one holder may hold whatever the others do, and what it holds

@@ -1,7 +1,6 @@
 -- "To release before B". "Before" and "further" go by distance from U as the call finds it.
-use Rattle.std.specs.Prelude.{Bool, true, false, not, ◌&&◌, ◌||◌, ℕ, ltb, eqb, length, get_or}
+use Rattle.std.specs.Prelude.{Bool, true, false, not, ◌&&◌, ◌||◌, ℕ, ltb, eqb, length, get_or, if◌then◌else◌}
 use Rattle.psn.specs.Psn.{before}
-use Rattle.refusal.specs.Choice.{if◌then◌else◌}
 use Rattle.rules.specs.declared.Packet.{Packet}
 use Rattle.rules.specs.declared.Settings.{Settings}
 use Rattle.rules.specs.declared.Clock.{Clock}

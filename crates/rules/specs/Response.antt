@@ -1,7 +1,6 @@
 -- "Read response R, with opcode and payload length".
-use Rattle.std.specs.Prelude.{Bool, true, false, not, ◌&&◌, ◌||◌, ℕ, suc, ◌+◌, ◌*◌, ltb, leb, eqb, length, get_or}
+use Rattle.std.specs.Prelude.{Bool, true, false, not, ◌&&◌, ◌||◌, ℕ, suc, ◌+◌, ◌*◌, ltb, leb, eqb, length, get_or, if◌then◌else◌}
 use Rattle.psn.specs.Psn.{distance, next}
-use Rattle.refusal.specs.Choice.{if◌then◌else◌}
 use Rattle.rules.specs.declared.Packet.{Packet}
 use Rattle.rules.specs.declared.Settings.{Settings}
 use Rattle.rules.specs.declared.Standing.{Standing}

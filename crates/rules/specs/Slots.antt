@@ -1,6 +1,6 @@
 -- The tables, and a queue as the list of slot numbers that its links spell. `none` is the number that stands for no slot.
-use Rattle.std.specs.Prelude.{◌≡◌, List, [], ◌∷◌, ◌++◌, map, ℕ, zero, suc, ◌+◌, ◌-◌, ◌<◌, eqb, length, get_or, set, take, drop, replicate}
-use Rattle.refusal.specs.Choice.{if◌then◌else◌, Each}
+use Rattle.std.specs.Prelude.{◌≡◌, List, [], ◌∷◌, ◌++◌, map, ℕ, zero, suc, ◌+◌, ◌-◌, ◌<◌, eqb, length, get_or, set, take, drop, replicate, if◌then◌else◌}
+use Rattle.refusal.specs.Choice.{Each}
 use Rattle.rules.specs.declared.Packet.{Packet}
 use Rattle.rules.specs.declared.Standing.{Standing}
 use Rattle.rules.specs.declared.Queue.{Queue}

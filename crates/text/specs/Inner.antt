@@ -1,7 +1,6 @@
 -- What the contracts of private functions cite: steps on the way, which nobody has to believe.
 -- Assumes nothing.
-use Rattle.std.specs.Prelude.{ℕ, zero, suc, ◌-◌, ◌≤◌, ◌<◌, ◌≡◌, Bool, true, false, List, [], ◌∷◌, map, leb, length, get_or, take, drop}
-use Rattle.refusal.specs.Choice.{if◌then◌else◌}
+use Rattle.std.specs.Prelude.{ℕ, zero, suc, ◌-◌, ◌≤◌, ◌<◌, ◌≡◌, Bool, true, false, List, [], ◌∷◌, map, leb, length, get_or, take, drop, if◌then◌else◌}
 use Rattle.text.specs.declared.Ask.TheVariants.{Unread}
 use Rattle.text.specs.declared.Follow.{Follow}
 use Rattle.text.specs.declared.Follow.TheVariants.{Numbers, Sizes, Hex, Unknown}

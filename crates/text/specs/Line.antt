@@ -1,7 +1,6 @@
 -- What a line asks, from "Reading" and "Calls" of the trace protocol. Assumes nothing.
-use Rattle.std.specs.Prelude.{ℕ, zero, suc, ◌-◌, ◌&&◌, List, [], ◌∷◌, ◌++◌, leb, ltb, eqb, length, get_or, replicate}
+use Rattle.std.specs.Prelude.{ℕ, zero, suc, ◌-◌, ◌&&◌, List, [], ◌∷◌, ◌++◌, leb, ltb, eqb, length, get_or, replicate, if◌then◌else◌}
 use Prim.Native.String.{String}
-use Rattle.refusal.specs.Choice.{if◌then◌else◌}
 use Rattle.text.specs.declared.Number.{Number}
 use Rattle.text.specs.declared.Number.TheVariants.{Is, Not}
 use Rattle.text.specs.declared.Ask.{Ask}

@@ -1,7 +1,6 @@
 -- "A number is decimal digits, at most 2^64 − 1 (leading zeros are fine)."
 -- Assumes nothing.
-use Rattle.std.specs.Prelude.{ℕ, ◌+◌, ◌-◌, ◌*◌, ◌^◌, Bool, true, ◌&&◌, List, [], ◌∷◌, leb, ltb}
-use Rattle.refusal.specs.Choice.{if◌then◌else◌}
+use Rattle.std.specs.Prelude.{ℕ, ◌+◌, ◌-◌, ◌*◌, ◌^◌, Bool, true, ◌&&◌, List, [], ◌∷◌, leb, ltb, if◌then◌else◌}
 use Rattle.text.specs.declared.Number.{Number}
 use Rattle.text.specs.declared.Number.TheVariants.{Is, Not}
 

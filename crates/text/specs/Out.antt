@@ -1,6 +1,5 @@
 -- How an answer is written: into a buffer, from a place on, as far as the buffer goes. Assumes nothing.
-use Rattle.std.specs.Prelude.{ℕ, zero, suc, ◌+◌, ◌/◌, ◌%◌, ◌≡◌, List, [], ◌∷◌, ◌++◌, ltb, length, set}
-use Rattle.refusal.specs.Choice.{if◌then◌else◌}
+use Rattle.std.specs.Prelude.{ℕ, zero, suc, ◌+◌, ◌/◌, ◌%◌, ◌≡◌, List, [], ◌∷◌, ◌++◌, ltb, length, set, if◌then◌else◌}
 
 -- the buffer, and the place where the next byte goes
 pub record Out : Type 0 where

@@ -1,7 +1,6 @@
 -- "It is words separated by spaces or tabs; a carriage return is a character like any other."
 -- Assumes nothing.
-use Rattle.std.specs.Prelude.{ℕ, Bool, false, not, ◌||◌, List, [], ◌∷◌, eqb}
-use Rattle.refusal.specs.Choice.{if◌then◌else◌}
+use Rattle.std.specs.Prelude.{ℕ, Bool, false, not, ◌||◌, List, [], ◌∷◌, eqb, if◌then◌else◌}
 
 -- a space or a tab
 abbrev pub blank : ℕ → Bool

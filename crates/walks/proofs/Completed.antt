@@ -1,4 +1,5 @@
 -- The completions of the slots that leave: each message's ticket and status, one after the other from the front of the lent numbers, and the count of them.
+use Rattle.std.specs.Prelude.{if◌then◌else◌}
 use mathlib.Core.Path.{◌≡◌, refl, sym, ap, ◌∙◌}
 use mathlib.Core.Bool.{Bool, true, false}
 use mathlib.Core.List.{List, [], ◌∷◌, ◌++◌, append_assoc}
@@ -9,7 +10,6 @@ use lib.Dec.{ltb}
 use borrow.Author.Tests.{lt-ltb}
 use lib.ListN.{length, set, take, length-append}
 use lib.Seq.{append_snoc, set_at, take-nil}
-use Rattle.refusal.specs.Choice.{if◌then◌else◌}
 use Rattle.rules.specs.declared.Packet.{Packet}
 use Rattle.rules.specs.Message.{is_last}
 use Rattle.rules.specs.Slots.{slot_at}

@@ -1,5 +1,6 @@
 -- The law of moving: a run of slots from the front of one queue, hung one by one at the end of another. It is stated once, of any loop whose turns move a slot, and
 -- serves the slots that leave a pair and those that join one.
+use Rattle.std.specs.Prelude.{if◌then◌else◌}
 use mathlib.Core.Path.{◌≡◌, refl, sym, ap, ◌∙◌}
 use mathlib.Core.List.{List, [], ◌∷◌, ◌++◌, append-nil}
 use Prim.Native.Nat.{ℕ, zero, suc, ◌+◌, ◌≤◌, ◌<◌}
@@ -8,7 +9,6 @@ use lib.Dec.{eqb}
 use borrow.Author.Tests.{ne_eqb}
 use lib.ListN.{length, take, drop, take-append-drop}
 use lib.Seq.{append_snoc, length-take-le}
-use Rattle.refusal.specs.Choice.{if◌then◌else◌}
 use Rattle.refusal.proofs.Each.{each-so}
 use Rattle.rules.specs.declared.Packet.{Packet}
 use Rattle.rules.specs.declared.Queue.{Queue}

@@ -1,6 +1,5 @@
 -- The three walks that act: slots leave a pair for the free queue's end, slots from the free queue's front join a pair, packets go out.
-use Rattle.std.specs.Prelude.{List, ◌++◌, ℕ, suc, ◌+◌, ◌-◌, ◌*◌, ◌%◌, ◌^◌, ltb, leb, eqb, length, set, take, drop}
-use Rattle.refusal.specs.Choice.{if◌then◌else◌}
+use Rattle.std.specs.Prelude.{List, ◌++◌, ℕ, suc, ◌+◌, ◌-◌, ◌*◌, ◌%◌, ◌^◌, ltb, leb, eqb, length, set, take, drop, if◌then◌else◌}
 use Rattle.wire.specs.declared.Size.{Size}
 use Rattle.wire.specs.declared.Size.TheVariants.{Length, Refused}
 use Rattle.wire.specs.Bytes.{bytes}

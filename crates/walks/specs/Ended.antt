@@ -1,6 +1,5 @@
 -- The queues once a walk has ended.
-use Rattle.std.specs.Prelude.{ℕ, ◌+◌, ◌-◌, min, eqb}
-use Rattle.refusal.specs.Choice.{if◌then◌else◌}
+use Rattle.std.specs.Prelude.{ℕ, ◌+◌, ◌-◌, min, eqb, if◌then◌else◌}
 use Rattle.rules.specs.declared.Ends.{Ends}
 use Rattle.rules.specs.declared.Queue.{Queue}
 use Rattle.rules.specs.Card.{small}

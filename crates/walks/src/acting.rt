@@ -1,6 +1,5 @@
 // The steps of the walks that act: a slot leaves a pair for the free queue's end, or joins one with a packet of a post.
-ghost use Rattle.std.specs.Prelude.{◌≡◌, ◌-◌, set};
-ghost use Rattle.refusal.specs.Choice.{if◌then◌else◌};
+ghost use Rattle.std.specs.Prelude.{◌≡◌, ◌-◌, set, if◌then◌else◌};
 ghost use Rattle.walks.specs.Acting.{move_step, counted, leave_step, status_of, completed, join_step, join_slot};
 
 use crate::{Joining, Leaving, Moving};

@@ -1,4 +1,5 @@
 -- The writer's cursor: what one call adds and then another is what both add. Assumes nothing.
+use Rattle.std.specs.Prelude.{if◌then◌else◌}
 use mathlib.Core.Path.{◌≡◌, sym, ◌∙◌, ap, ap₂, subst}
 use mathlib.Core.Bool.{Bool, true, false, true≢false, false≢true}
 use mathlib.Core.List.{List, [], ◌∷◌, ◌++◌, append_assoc, append-nil}
@@ -7,7 +8,6 @@ use native.Mathlib.Omega.{arith}
 use native.Mathlib.Nat.{zero-add}
 use lib.ListN.{length, set, replicate, length-append}
 use lib.Seq.{set-append_seam, append_snoc}
-use Rattle.refusal.specs.Choice.{if◌then◌else◌}
 use Rattle.wire.specs.Bytes.{octet, bytes}
 use Rattle.wire.specs.Layout.{Name, Layout, ◌bits◌, size, laid}
 use Rattle.wire.specs.Header.{header_bytes}

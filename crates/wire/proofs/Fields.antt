@@ -1,5 +1,6 @@
 -- Layouts: what is laid under a name is found under it, what is found and laid again is the same, and a join of two layouts
 -- is read and written part by part. Assumes nothing.
+use Rattle.std.specs.Prelude.{if◌then◌else◌}
 use mathlib.Core.Path.{◌≡◌, refl, sym, ◌∙◌, ap, ap₂}
 use mathlib.Core.Bool.{Bool, true, false, not, ◌&&◌, true≢false, false≢true}
 use mathlib.Core.List.{[], ◌∷◌, ◌++◌}
@@ -8,7 +9,6 @@ use native.Mathlib.Omega.{arith}
 use native.Mathlib.Nat.{zero-add, zero-mul, mod-lt, mod-mod, mod-eq_of_lt}
 use lib.Arith.{digits_lt}
 use lib.Pow.{pow_pos, pow-add, high, low, mod-pow-add, field as pow-field, mod-mod-pow, shr-shr}
-use Rattle.refusal.specs.Choice.{if◌then◌else◌}
 use Rattle.refusal.proofs.Cases.{by-test, if-case, not-both, and_left, and_right}
 use borrow.Author.Tests.{not-true}
 use Rattle.wire.specs.Layout.{Name, Layout, size, Name-discrete, decided, same, has, laid, field}

@@ -1,4 +1,5 @@
 -- "Reading a written header .. gives the same fields." Assumes nothing.
+use Rattle.std.specs.Prelude.{if◌then◌else◌}
 use mathlib.Core.Path.{◌≡◌, refl, sym, ◌∙◌, ap, subst}
 use mathlib.Core.Bool.{Bool, true, false, ◌||◌}
 use mathlib.Core.List.{List, [], ◌∷◌, ◌++◌}
@@ -11,7 +12,6 @@ use lib.ListN.{length, take, replicate, length-append, get_or-append}
 use lib.Seq.{take_all, take_at}
 use borrow.Author.Tests.{ltb-false, leb-true, leb-false}
 use Rattle.psn.specs.Psn.{psns}
-use Rattle.refusal.specs.Choice.{if◌then◌else◌}
 use Rattle.refusal.proofs.Cases.{by-test, or_left, or_right}
 use Rattle.wire.specs.Bytes.{octet, number, bytes, AllBytes}
 use Rattle.wire.specs.Layout as fields

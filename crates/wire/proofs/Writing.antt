@@ -1,11 +1,11 @@
 -- Writing, case by case: what is refused, and what the cursor has written at the end. Assumes nothing.
+use Rattle.std.specs.Prelude.{if◌then◌else◌}
 use mathlib.Core.Path.{◌≡◌, refl, sym, ◌∙◌, ap, subst}
 use mathlib.Core.Bool.{Bool, true, false}
 use mathlib.Core.List.{[], ◌++◌}
 use Prim.Native.Nat.{ℕ, ◌+◌, ◌-◌, ◌≤◌}
 use native.Mathlib.Omega.{arith}
 use lib.ListN.{length, replicate, length-append, length-replicate}
-use Rattle.refusal.specs.Choice.{if◌then◌else◌}
 use Rattle.refusal.proofs.Cases.{by-test}
 use Rattle.wire.specs.Layout.{Name, bth, reth, immediate_data, aeth, laid}
 use Rattle.wire.specs.Opcodes.{known, has_reth, has_immediate, has_aeth, joined, layout, header_length, row_of}

@@ -1,6 +1,6 @@
 -- Reading a frame. Assumes nothing.
-use Rattle.std.specs.Prelude.{Bool, not, ◌&&◌, List, [], ◌∷◌, ℕ, ◌-◌, ◌%◌, ltb, eqb, length, take, get_or}
-use Rattle.refusal.specs.Choice.{if◌then◌else◌, any_of}
+use Rattle.std.specs.Prelude.{Bool, not, ◌&&◌, List, [], ◌∷◌, ℕ, ◌-◌, ◌%◌, ltb, eqb, length, take, get_or, if◌then◌else◌}
+use Rattle.refusal.specs.Choice.{any_of}
 use Rattle.refusal.specs.Refusals.{Row, ◌gives◌, first_given}
 use Rattle.wire.specs.Bytes.{number}
 use Rattle.wire.specs.Layout as fields

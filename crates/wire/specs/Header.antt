@@ -1,7 +1,7 @@
 -- Writing a header. Assumes nothing.
-use Rattle.std.specs.Prelude.{Bool, not, List, [], ◌∷◌, ◌++◌, ℕ, ◌-◌, ◌^◌, leb, ltb, eqb, replicate}
+use Rattle.std.specs.Prelude.{Bool, not, List, [], ◌∷◌, ◌++◌, ℕ, ◌-◌, ◌^◌, leb, ltb, eqb, replicate, if◌then◌else◌}
 use Rattle.psn.specs.Psn.{psns}
-use Rattle.refusal.specs.Choice.{if◌then◌else◌, any_of}
+use Rattle.refusal.specs.Choice.{any_of}
 use Rattle.refusal.specs.Refusals.{Row, ◌gives◌, first_given}
 use Rattle.wire.specs.Bytes.{bytes}
 use Rattle.wire.specs.Layout as fields

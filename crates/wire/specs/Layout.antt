@@ -1,7 +1,6 @@
 -- "Headers, big-endian": each header as the list of its fields with their widths in bits, in the order of the wire.
 -- Assumes nothing.
-use Rattle.std.specs.Prelude.{◌≡◌, Bool, true, false, List, [], ◌∷◌, ℕ, ◌+◌, ◌*◌, ◌/◌, ◌%◌, ◌^◌}
-use Rattle.refusal.specs.Choice.{if◌then◌else◌}
+use Rattle.std.specs.Prelude.{◌≡◌, Bool, true, false, List, [], ◌∷◌, ℕ, ◌+◌, ◌*◌, ◌/◌, ◌%◌, ◌^◌, if◌then◌else◌}
 
 pub data Name : Type 0 where
   opcode solicited_event migration pad version p_key reserved_byte far_pair ack_req reserved_bits psn : Name

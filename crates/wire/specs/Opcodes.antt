@@ -1,6 +1,6 @@
 -- What each opcode carries. Assumes nothing.
-use Rattle.std.specs.Prelude.{Bool, false, not, [], ◌∷◌, ◌++◌, ℕ, ◌/◌, leb}
-use Rattle.refusal.specs.Choice.{if◌then◌else◌, among}
+use Rattle.std.specs.Prelude.{Bool, false, not, [], ◌∷◌, ◌++◌, ℕ, ◌/◌, leb, if◌then◌else◌}
+use Rattle.refusal.specs.Choice.{among}
 use Rattle.wire.specs.Bytes.{octet}
 use Rattle.wire.specs.Layout.{Layout, bth, reth, immediate_data, aeth, size}
 use Rattle.wire.specs.declared.opcode.Carries.{Carries}

@@ -1,8 +1,7 @@
 -- "Reading a written header, cut to its length and followed by a rest that 14 allows, gives the same fields (those the opcode lacks are not
 -- written and read as 0); writing what was read gives the same bytes when the reserved bits were zero and those three as written."
 -- The words of the two theorems of proofs/Forth.antt and proofs/Back.antt. Assumes nothing.
-use Rattle.std.specs.Prelude.{◌≡◌, false, List, ◌++◌, ℕ, ◌-◌, ◌^◌, ◌<◌, length, take, replicate}
-use Rattle.refusal.specs.Choice.{if◌then◌else◌}
+use Rattle.std.specs.Prelude.{◌≡◌, false, List, ◌++◌, ℕ, ◌-◌, ◌^◌, ◌<◌, length, take, replicate, if◌then◌else◌}
 use Rattle.wire.specs.Bytes.{AllBytes}
 use Rattle.wire.specs.Layout as fields
 use Rattle.wire.specs.Layout.{has}

@@ -1,6 +1,5 @@
 // The writer: a header by value to 32 bytes by value.
-ghost use Rattle.std.specs.Prelude.{◌≡◌, []};
-ghost use Rattle.refusal.specs.Choice.{if◌then◌else◌};
+ghost use Rattle.std.specs.Prelude.{◌≡◌, [], if◌then◌else◌};
 ghost use Rattle.wire.specs.Bytes.{bytes};
 ghost use Rattle.wire.specs.Layout.{bth, reth, immediate_data, aeth};
 ghost use Rattle.wire.specs.Header.{put, is_out_of_range, refused as refused_by, write_of};

@@ -1,4 +1,5 @@
 -- A NAK or RNR of R lets go of the packets before R and of no other: R and all after it are kept, and sent again.
+use Rattle.std.specs.Prelude.{if◌then◌else◌}
 use mathlib.Core.Path.{◌≡◌, sym, ap, ◌∙◌}
 use mathlib.Core.Bool.{true, false, ◌&&◌}
 use mathlib.Core.List.{List}
@@ -7,7 +8,6 @@ use native.Mathlib.Omega.{arith}
 use lib.Dec.{eqb, ltb}
 use borrow.Author.Tests.{le-leb, ne_eqb}
 use lib.ListN.{length, take, drop, take-append-drop}
-use Rattle.refusal.specs.Choice.{if◌then◌else◌}
 use Rattle.refusal.specs.Refusals.{first_given}
 use Rattle.refusal.proofs.Cases.{if-case, and_none}
 use Rattle.rules.specs.declared.Clock.{Clock}

@@ -1,4 +1,5 @@
 -- The second error of the trade, shut out: every rule does the same to a side all of whose PSNs are turned k places.
+use Rattle.std.specs.Prelude.{if◌then◌else◌}
 use mathlib.Core.Path.{◌≡◌, refl, sym, ap, ap₂, ◌∙◌}
 use mathlib.Core.Bool.{Bool, true, false, not, ◌&&◌, ◌||◌}
 use mathlib.Core.List.{List, map, map-append}
@@ -9,7 +10,7 @@ use lib.ListN.{length, get_or, take, drop, length-map}
 use borrow.Author.Tests.{ltb-true, eqb-false, not-false}
 use Rattle.psn.specs.Psn.{psns, distance, plus, next, before}
 use Rattle.psn.proofs.Laws.{plus-below}
-use Rattle.refusal.specs.Choice.{if◌then◌else◌, Each}
+use Rattle.refusal.specs.Choice.{Each}
 use Rattle.refusal.proofs.Cases.{by-test, if-case, or_left}
 use Rattle.refusal.proofs.Each.{each_at}
 use Rattle.rules.specs.declared.Packet.{Packet}

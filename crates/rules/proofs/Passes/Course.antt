@@ -1,4 +1,5 @@
 -- The walk over the PSNs passes exactly if the audit's order bullet holds.
+use Rattle.std.specs.Prelude.{if◌then◌else◌}
 use mathlib.Core.Path.{◌≡◌, refl, sym, ap, ◌∙◌}
 use mathlib.Core.Logic.{◌↔◌}
 use mathlib.Core.Bool.{Bool, true, false, ◌||◌, false≢true}
@@ -13,7 +14,6 @@ use Rattle.rules.specs.declared.Line.{Line}
 use Rattle.rules.specs.declared.Standing.{Standing}
 use Rattle.rules.specs.declared.carried.Course.{Course}
 use Rattle.psn.specs.Psn.{psns, half, distance}
-use Rattle.refusal.specs.Choice.{if◌then◌else◌}
 use Rattle.rules.specs.Message.{span}
 use Rattle.rules.specs.Order.{◌or◌, left, right, Past, Start}
 use Rattle.rules.specs.Passes.Course.{course_from, astray, onward, first_fits, next_fits, course_step, stands, line_fits, course_ends}

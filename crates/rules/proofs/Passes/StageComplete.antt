@@ -1,4 +1,5 @@
 -- What is held passes: the walk over the messages takes the records of any allowed post, and of the first any rear part.
+use Rattle.std.specs.Prelude.{if◌then◌else◌}
 use mathlib.Core.Path.{◌≡◌, refl, sym, ap, ◌∙◌}
 use mathlib.Core.Bool.{Bool, true, false, false≢true}
 use mathlib.Core.List.{List, [], ◌∷◌, ◌++◌, map}
@@ -14,7 +15,6 @@ use Rattle.rules.specs.declared.Post.{Post}
 use Rattle.rules.specs.declared.carried.Stage.{Stage}
 use Rattle.rules.specs.declared.carried.Stage.TheVariants.{Start, Between, Inside}
 use Rattle.psn.specs.Psn.{psns, plus}
-use Rattle.refusal.specs.Choice.{if◌then◌else◌}
 use Rattle.wire.specs.Opcodes.{has_reth, has_immediate}
 use Rattle.rules.specs.Message.{pmtu, packets_for, is_read, from, opcode_at, length_at, made, packet_at, packets_of}
 use Rattle.rules.specs.WholeMessages.{Allowed, Messages, no_more, message, Remaining, none_left, rear}

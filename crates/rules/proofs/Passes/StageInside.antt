@@ -1,4 +1,5 @@
 -- The walk stands inside a message: it takes the rest of the records of any allowed post.
+use Rattle.std.specs.Prelude.{if◌then◌else◌}
 use mathlib.Core.Path.{◌≡◌, refl, sym, ap, ◌∙◌}
 use mathlib.Core.Bool.{Bool, true, false}
 use mathlib.Core.List.{List, ◌++◌, map}
@@ -16,7 +17,6 @@ use Rattle.rules.specs.declared.carried.Begun.{Begun}
 use Rattle.rules.specs.declared.carried.Stage.{Stage}
 use Rattle.rules.specs.declared.carried.Stage.TheVariants.{Between, Inside}
 use Rattle.psn.specs.Psn.{plus}
-use Rattle.refusal.specs.Choice.{if◌then◌else◌}
 use Rattle.wire.specs.Opcodes.{has_reth, has_immediate}
 use Rattle.rules.specs.Message.{pmtu, packets_for, from, opcode_at, length_at, made, packet_at, packets_of}
 use Rattle.rules.specs.WholeMessages.{Allowed}

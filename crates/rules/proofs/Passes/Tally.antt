@@ -1,4 +1,5 @@
 -- The tally over all queues passes exactly if each passed, the last slots of those that hold something differ, and the counts add up.
+use Rattle.std.specs.Prelude.{if◌then◌else◌}
 use mathlib.Core.Path.{◌≡◌, refl, sym, ap, ◌∙◌}
 use mathlib.Core.Logic.{◌≢◌}
 use mathlib.Core.Bool.{Bool, true, false, false≢true}
@@ -10,7 +11,7 @@ use borrow.Author.Tests.{ltb-true, eqb-true, eqb-false, eq-eqb, ne_eqb, lt-ltb, 
 use lib.ListN.{length}
 use Rattle.refusal.proofs.Each.{each-so, each_both}
 use Rattle.rules.specs.declared.carried.Tally.{Tally}
-use Rattle.refusal.specs.Choice.{if◌then◌else◌, Each}
+use Rattle.refusal.specs.Choice.{Each}
 use Rattle.rules.specs.Passes.Tables.{has, put, Entry, failed, add_claim, add_queue, is_new, tally_fits, tally_step, tallied}
 use Rattle.rules.specs.Passes.Tests.{◌and◌}
 use Rattle.refusal.proofs.Cases.{by-test}

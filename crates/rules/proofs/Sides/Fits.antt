@@ -1,4 +1,5 @@
 -- For code: what the sides say, read off the records; and that the sums of posting, emission and responses fit their fields.
+use Rattle.std.specs.Prelude.{if◌then◌else◌}
 use mathlib.Core.Path.{◌≡◌, refl, sym, ap, ◌∙◌}
 use mathlib.Core.Bool.{true, true≢false}
 use mathlib.Core.List.{List, [], ◌∷◌, map}
@@ -10,7 +11,7 @@ use lib.Dec.{eqb, ltb}
 use borrow.Author.Tests.{ltb-true, eqb-true, eqb-false}
 use lib.ListN.{length, length-map}
 use Rattle.refusal.proofs.Cases.{by-test, if-case}
-use Rattle.refusal.specs.Choice.{if◌then◌else◌, Each}
+use Rattle.refusal.specs.Choice.{Each}
 use Rattle.rules.specs.declared.Packet.{Packet}
 use Rattle.rules.specs.declared.Settings.{Settings}
 use Rattle.rules.specs.declared.Standing.{Standing}

@@ -1,4 +1,5 @@
 -- What goes out is a written header, never the 32 zeros of a refused one: every field is in its range.
+use Rattle.std.specs.Prelude.{if◌then◌else◌}
 use mathlib.Core.Path.{◌≡◌, refl, ap, ◌∙◌}
 use mathlib.Core.Bool.{false}
 use mathlib.Core.List.{List, ◌++◌}
@@ -8,7 +9,7 @@ use lib.Dec.{eqb, ltb}
 use borrow.Author.Tests.{eqb-false, le-ltb, lt-leb, le-leb}
 use lib.ListN.{replicate}
 use Rattle.refusal.proofs.Each.{each-drop, each_map, each_both}
-use Rattle.refusal.specs.Choice.{if◌then◌else◌, Each}
+use Rattle.refusal.specs.Choice.{Each}
 use Rattle.refusal.proofs.Cases.{if-case}
 use Rattle.psn.specs.Psn.{psns, distance, before}
 use Rattle.wire.specs.declared.Size.TheVariants.{Length}

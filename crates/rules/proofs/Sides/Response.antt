@@ -1,4 +1,5 @@
 -- A response that fits leaves the pair ready and in order.
+use Rattle.std.specs.Prelude.{if◌then◌else◌}
 use mathlib.Core.Path.{◌≡◌, refl, sym, ◌∙◌, subst}
 use mathlib.Core.Bool.{true, false, not, true≢false}
 use mathlib.Core.List.{List, ◌∷◌}
@@ -10,7 +11,6 @@ use borrow.Author.Tests.{ltb-true, ltb-false, le-ltb, lt-ltb, eqb-true, eqb-fals
 use lib.ListN.{length, drop}
 use lib.Seq.{drop-cons, drop-drop}
 use Rattle.refusal.proofs.Cases.{by-test, if-case}
-use Rattle.refusal.specs.Choice.{if◌then◌else◌}
 use Rattle.rules.specs.declared.Packet.{Packet}
 use Rattle.rules.specs.declared.Answer.TheVariants.{Resending}
 use Rattle.rules.specs.declared.Outcome.{Outcome}

@@ -1,4 +1,5 @@
 -- The split covers a message exactly: its packets' lengths add up to it, offsets and PSNs run on, and the last packet alone ends it.
+use Rattle.std.specs.Prelude.{if◌then◌else◌}
 use mathlib.Core.Path.{◌≡◌, refl, sym, ap, ◌∙◌}
 use mathlib.Core.Bool.{Bool, true, false, not, false≢true}
 use mathlib.Core.List.{List, [], ◌∷◌, map}
@@ -9,7 +10,6 @@ use lib.Pow.{pow_pos}
 use lib.Dec.{eqb, leb}
 use borrow.Author.Tests.{eqb-true, eqb-false, eq-eqb, ne_eqb, le-leb, lt-leb}
 use lib.ListN.{length, get_or, take}
-use Rattle.refusal.specs.Choice.{if◌then◌else◌}
 use Rattle.refusal.proofs.Below.{below-every}
 use Rattle.refusal.proofs.Cases.{by-test, if-case}
 use Rattle.psn.specs.Psn.{plus}

@@ -1,6 +1,5 @@
 -- The order of a ready pair's packets. Places are plain numbers, distances from U; the next place is 0 before the first record and never after.
-use Rattle.std.specs.Prelude.{Bool, true, false, not, ◌||◌, ℕ, ◌+◌, ◌-◌, ltb, leb, eqb}
-use Rattle.refusal.specs.Choice.{if◌then◌else◌}
+use Rattle.std.specs.Prelude.{Bool, true, false, not, ◌||◌, ℕ, ◌+◌, ◌-◌, ltb, leb, eqb, if◌then◌else◌}
 use Rattle.psn.specs.Psn.{psns, half, distance}
 use Rattle.rules.specs.declared.Packet.{Packet}
 use Rattle.rules.specs.declared.Settings.{Settings}

@@ -1,6 +1,5 @@
 -- One pair's queue: links, order and messages together, in one walk by the links.
-use Rattle.std.specs.Prelude.{Bool, true, List, ℕ, zero, suc, eqb, length}
-use Rattle.refusal.specs.Choice.{if◌then◌else◌}
+use Rattle.std.specs.Prelude.{Bool, true, List, ℕ, zero, suc, eqb, length, if◌then◌else◌}
 use Rattle.rules.specs.declared.Standing.{Standing}
 use Rattle.rules.specs.declared.Queue.{Queue}
 use Rattle.rules.specs.declared.Slot.{Slot}

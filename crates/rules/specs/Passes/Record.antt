@@ -1,6 +1,5 @@
 -- A pair's record by itself: its state number, the second and the fifth bullet, and that a pair not ready holds none. Each list is in the order of its record in `Audit`.
-use Rattle.std.specs.Prelude.{Bool, true, not, ◌||◌, List, [], ◌∷◌, ℕ, ltb, leb, eqb}
-use Rattle.refusal.specs.Choice.{if◌then◌else◌}
+use Rattle.std.specs.Prelude.{Bool, true, not, ◌||◌, List, [], ◌∷◌, ℕ, ltb, leb, eqb, if◌then◌else◌}
 use Rattle.psn.specs.Psn.{psns}
 use Rattle.rules.specs.declared.Standing.{Standing}
 use Rattle.rules.specs.Timer.{timeout_of}

@@ -1,6 +1,5 @@
 -- How the reader looks at a frame. Assumes nothing.
-use Rattle.std.specs.Prelude.{Bool, List, [], ◌∷◌, ℕ, zero, suc, ◌+◌, get_or}
-use Rattle.refusal.specs.Choice.{if◌then◌else◌}
+use Rattle.std.specs.Prelude.{Bool, List, [], ◌∷◌, ℕ, zero, suc, ◌+◌, get_or, if◌then◌else◌}
 use Rattle.wire.specs.Bytes.{number}
 use Rattle.wire.specs.Layout as fields
 use Rattle.wire.specs.Layout.{Name, Layout, field}
