@@ -1,4 +1,4 @@
-// The calls for a driver in C: the card's, with answers and posts as flat records of numbers. include/kamusseori.h declares them.
+// The calls for a driver in C: the card's, with answers and posts as flat records of numbers. host_c exports them, and include/kamusseori.h declares them.
 #![tactic(auto)]
 
 mod calls;

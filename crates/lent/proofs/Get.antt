@@ -1,5 +1,5 @@
 -- `fn get(xs: &mut [S], i: usize, d: S) -> S { if i < xs.len() { xs[i] } else { d } }` at any struct S of plain data: the walk of its MIR, once for all.
--- `get-meets`: it meets `result ≡ get_or xs.old i d` and that xs is at exit as it was. A crate's getter cites it at its struct. Assumes `Logic`.
+-- `get-meets`: it meets `result ≡ get_or xs.old i d` and that xs is at exit as it was. A getter of records can cite it at its struct. Assumes `Logic`.
 use mathlib.Core.Path.{◌≡◌, refl, sym}
 use mathlib.Core.Option.{some}
 use Prim.Native.Nat.{ℕ, ◌<◌, ◌^◌}

@@ -1,5 +1,5 @@
 -- `fn put(xs: &mut [S], i: usize, s: S) { if i < xs.len() { xs[i] = s; } }` at any struct S of plain data: the walk of its MIR, once for all.
--- `put-meets`: it meets `xs.new ≡ set xs.old i s`; past the end `set` changes nothing. A crate's putter cites it at its struct. Assumes `Logic`.
+-- `put-meets`: it meets `xs.new ≡ set xs.old i s`; past the end `set` changes nothing. A putter of records can cite it at its struct. Assumes `Logic`.
 use mathlib.Core.Path.{◌≡◌, refl, sym, ap}
 use mathlib.Core.Option.{some}
 use Prim.Native.Nat.{ℕ, zero, suc, ◌<◌, ◌≤◌, ◌^◌}
