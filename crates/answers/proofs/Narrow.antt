@@ -29,6 +29,9 @@ pub record Narrow (a m : List ℕ) (i : ℕ) : Type 0 where
   pub high : i ≤ length m
   pub left : within 0 a m ≡ within i a (drop i m)
 
+pub narrow_start : (a m : List ℕ) → Narrow a m 0
+narrow_start a m = record { high = omega arith; left = refl }
+
 module _ {a m : List ℕ} {i : ℕ} where
   cut : Narrow a m i → i < length m → within 0 a m ≡ within i a (get_or m i 0 ∷ drop (i + 1) m)
   cut n h = n.left ∙ ap (within i a) (drop_at m i (get_or m i 0) h refl)
