@@ -1,4 +1,4 @@
--- One record's step among messages in two: where it stands, then what it makes of that. `Stage-is` says that the two are the definition's step.
+-- One record's step among messages in two: where it stands, then what it makes of that. `stage_is` says that the two are the definition's step.
 use Rattle.std.specs.Prelude.{leb, if◌then◌else◌}
 use Rattle.rules.specs.declared.Packet.{Packet}
 use Rattle.rules.specs.declared.Settings.{Settings}

@@ -24,10 +24,10 @@ module _ {A : Type 0} (row : ℕ → A) where
   pub fill-less : (x : Filled A) → 0 < x.work.left → (fill_turn row x).work.left < x.work.left
   fill-less x l = omega (arith, l)
 
-  pub fill_done : (x : Filled A) → x.work.left ≡ 0 → fill row x ≡ x
+  fill_done : (x : Filled A) → x.work.left ≡ 0 → fill row x ≡ x
   fill_done = loop-done (λ (y : Filled A). y.work.left) (fill_turn row) fill-less
 
-  pub fill_more : (x : Filled A) → 0 < x.work.left → fill row x ≡ fill row (fill_turn row x)
+  fill_more : (x : Filled A) → 0 < x.work.left → fill row x ≡ fill row (fill_turn row x)
   fill_more = loop-more (λ (y : Filled A). y.work.left) (fill_turn row) fill-less
 
   -- the record that is written is the first of those behind

@@ -1,25 +1,26 @@
-use Rattle.std.proofs.Common.{◌≡◌, List, ℕ, arith, refl, sym, ap, subst, ◌∙◌}
-use Rattle.refusal.proofs.Loop.{loop-done, loop-more}
+use Rattle.std.proofs.Common.{ap}
+use Rattle.refusal.proofs.Loop.{keeps-start, keeps-on, keeps-end}
 use Rattle.card.specs.Lent.{lent}
-use Rattle.replay.specs.Serving.{Desk, fed, Feeds}
+use Rattle.replay.specs.Serving.{Desk}
 use Rattle.replay.proofs.Less.{fed-less}
 use Rattle.replay.proofs.serving.feed.Goals as goal
 
 pub loop-w-init : goal.loop-w-init
-loop-w-init c = (refl, refl)
+loop-w-init c = keeps-start _ _ _ _
 
 pub loop-w-preserved : goal.loop-w-preserved
 loop-w-preserved c =
-    let s = c.args.input.now in
-    let l = c.loop-w in
-    let d : Desk = record { tables = lent l.pairs l.ends l.slots; numbers = l.numbers; bytes = l.bytes; line = l.line; text = l.out; place = l.w } in
-    let n = c.feed_turn-w.new in
-    let e : Feeds s (fed s d) c.feed_turn-w.result n.pairs n.ends n.slots n.numbers n.bytes n.input n.line n.out =
-    subst (λ (x : List ℕ). Feeds x (fed x d) c.feed_turn-w.result n.pairs n.ends n.slots n.numbers n.bytes n.input n.line n.out) l.invariant.1 c.feed_turn-w.ensures in (
-      rw (e.0, e.1.0, e.1.1.0, e.1.1.1.0, e.1.1.1.1.0, e.1.1.1.1.1.0, e.1.1.1.1.1.1.1.0, e.1.1.1.1.1.1.1.1)
-          (sym (loop-more (λ (x : Desk). x.place.left) (fed s) (fed-less s) d c.loop-w-test.true) ∙ l.invariant.0),
-      e.1.1.1.1.1.1.0,
-    )
+    let e = c.feed_turn-w.ensures in
+    keeps-on _ _ fed-less c.loop-w.invariant c.loop-w-test.true
+    (λ i. record {
+      tables = lent (e.1.0 i) (e.1.1.0 i) (e.1.1.1.0 i);
+      numbers = e.1.1.1.1.0 i;
+      bytes = e.1.1.1.1.1.0 i;
+      line = e.1.1.1.1.1.1.1.0 i;
+      text = e.1.1.1.1.1.1.1.1 i;
+      place = e.0 i;
+    })
+    e.1.1.1.1.1.1.0
 
 pub loop-w-smaller : goal.loop-w-smaller
 loop-w-smaller c =
@@ -29,11 +30,8 @@ loop-w-smaller c =
 
 pub returns : goal.returns
 returns c =
-    let s = c.args.input.now in
-    let l = c.loop-w in
-    let d : Desk = record { tables = lent l.pairs l.ends l.slots; numbers = l.numbers; bytes = l.bytes; line = l.line; text = l.out; place = l.w } in
-    let none : d.place.left ≡ 0 = omega (arith, c.loop-w-test.false) in
-    let e = sym (loop-done (λ (x : Desk). x.place.left) (fed s) (fed-less s) d none) ∙ l.invariant.0 in (
+    let same = c.loop-w.invariant.same in
+    let e = keeps-end _ _ fed-less c.loop-w.invariant c.loop-w-test.false in (
       ap (λ (x : Desk). x.place) e,
       (
         ap (λ (x : Desk). x.tables.pairs) e,
@@ -43,7 +41,7 @@ returns c =
             ap (λ (x : Desk). x.tables.slots) e,
             (
               ap (λ (x : Desk). x.numbers) e,
-              (ap (λ (x : Desk). x.bytes) e, (l.invariant.1, (ap (λ (x : Desk). x.line) e, ap (λ (x : Desk). x.text) e))),
+              (ap (λ (x : Desk). x.bytes) e, (same, (ap (λ (x : Desk). x.line) e, ap (λ (x : Desk). x.text) e))),
             ),
           ),
         ),
