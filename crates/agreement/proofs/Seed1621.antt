@@ -2,12 +2,13 @@
 use mathlib.Core.Path.{refl}
 use mathlib.Core.List.{[], ◌∷◌}
 use Rattle.psn.specs.Psn.{distance}
+use Rattle.refusal.specs.declared.Refusal.TheVariants as refusal
 use Rattle.wire.specs.Bytes.{number, bytes}
 use Rattle.wire.specs.Layout.{laid}
 use Rattle.wire.specs.Opcodes.{layout, header_length}
 use Rattle.wire.specs.Header.{write_of, written}
 use Rattle.rules.specs.declared.Answer.TheVariants.{Dropped, Done, Resending, Held, Resumed, Idle, Ended}
-use Rattle.rules.specs.declared.Reply.TheVariants.{Refused, Answered, First, Count}
+use Rattle.rules.specs.declared.Reply.TheVariants.{Answered, First, Count}
 use Rattle.rules.specs.Message.{packets_of}
 use Rattle.rules.specs.Ranges.{bad_settings, bad_post}
 use Rattle.rules.specs.Posting.{posted}
@@ -19,7 +20,7 @@ use Rattle.rules.specs.Timer.{timer}
 use Rattle.rules.specs.Requests.{starting}
 use Rattle.rules.specs.Refusals.{side_at}
 use Rattle.rules.specs.Calls.{account}
-use Rattle.agreement.specs.Trace.{opens, posts, emits, acks, responds, ticks, closes, ◌gets◌, ◌reading◌, Agrees}
+use Rattle.agreement.specs.Trace.{opens, posts, emits, acks, responds, ticks, closes, ◌gets◌, ◌refused◌, ◌reading◌, Agrees}
 
 pub seed-1621 :
     Agrees
@@ -36,7 +37,7 @@ pub seed-1621 :
     ∷ posts 12 2928 0 1 2948437035 0 1535 0 16967605006798593335 1670752093
     gets First 16777165
     ∷ opens 12 1 1 1 1 1 1 1 1 1
-    gets Refused 2
+    refused refusal.State
     ∷ emits 12 1
     gets Count 1
     reading (192990158 ∷ 9563909 ∷ 2164260812 ∷ 0 ∷ 0 ∷ 1500070000 ∷ 0 ∷ 2414706059 ∷ 32 ∷ 2714 ∷ 0 ∷ 0
@@ -50,9 +51,9 @@ pub seed-1621 :
     ∷ acks 12 16777164 28
     gets Answered Done 1 0 reading (2714 ∷ 0 ∷ [])
     ∷ posts 12 5051 0 0 3344224320 1 129535 4294837761 11202754743900006602 3576806946
-    gets Refused 5
+    refused refusal.Ceiling
     ∷ emits 12 65
-    gets Refused 3
+    refused refusal.Range
     ∷ posts 12 4866 1 0 3346617151 0 1771 3313014139 0 1579092990
     gets First 16777169
     ∷ emits 12 7
@@ -66,7 +67,7 @@ pub seed-1621 :
     ∷ 125881294 ∷ 9563909 ∷ 2164260819 ∷ 0 ∷ 0 ∷ 0 ∷ 0 ∷ 0 ∷ 12 ∷ 4866 ∷ 3313015163 ∷ 512
     ∷ [])
     ∷ posts 12 1230 0 0 2813773069 1 1025 1663685848 17977269366357870465 3026170658
-    gets Refused 6
+    refused refusal.Fence
     ∷ emits 12 4
     gets Count 1
     reading (143707086 ∷ 9563909 ∷ 2164260820 ∷ 0 ∷ 0 ∷ 0 ∷ 0 ∷ 0 ∷ 12 ∷ 4866 ∷ 3313015675 ∷ 235
@@ -76,7 +77,7 @@ pub seed-1621 :
     ∷ acks 12 16777167 21
     gets Answered Done 1 0 reading (2928 ∷ 0 ∷ [])
     ∷ posts 12 3023 1 1 922500160 1 0 2512732686 11549524964682178123 186842058
-    gets Refused 6
+    refused refusal.Fence
     ∷ ticks 12 4294967295
     gets Answered Idle 0 0
     ∷ responds 12 16777168 16 0
@@ -136,9 +137,9 @@ pub seed-1621 :
     ∷ responds 12 16777174 16 1
     gets Answered Done 3 0 reading (4866 ∷ 0 ∷ 4176 ∷ 0 ∷ 6435 ∷ 0 ∷ [])
     ∷ responds 12 16777175 16 512
-    gets Refused 9
+    refused refusal.Response
     ∷ responds 12 16777176 14 511
-    gets Refused 9
+    refused refusal.Response
     ∷ posts 12 142 0 0 2547429246 0 1 1655320686 0 2522635719
     gets First 16777179
     ∷ responds 12 16777175 13 512
@@ -170,7 +171,7 @@ pub seed-1621 :
     ∷ 78695374 ∷ 9563909 ∷ 2164260827 ∷ 0 ∷ 0 ∷ 0 ∷ 0 ∷ 0 ∷ 12 ∷ 142 ∷ 1655320686 ∷ 1
     ∷ [])
     ∷ responds 12 16777177 65537 511
-    gets Refused 3
+    refused refusal.Range
     ∷ emits 12 6
     gets Count 5
     reading (8440782 ∷ 9563909 ∷ 2164260828 ∷ 0 ∷ 0 ∷ 0 ∷ 0 ∷ 0 ∷ 12 ∷ 5043 ∷ 769573279 ∷ 512

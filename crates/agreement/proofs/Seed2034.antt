@@ -2,12 +2,13 @@
 use mathlib.Core.Path.{refl}
 use mathlib.Core.List.{[], ◌∷◌}
 use Rattle.psn.specs.Psn.{distance}
+use Rattle.refusal.specs.declared.Refusal.TheVariants as refusal
 use Rattle.wire.specs.Bytes.{number, bytes}
 use Rattle.wire.specs.Layout.{laid}
 use Rattle.wire.specs.Opcodes.{layout, header_length}
 use Rattle.wire.specs.Header.{write_of, written}
 use Rattle.rules.specs.declared.Answer.TheVariants.{Dropped, Done, Resending, Held, Resumed, Idle, Ended}
-use Rattle.rules.specs.declared.Reply.TheVariants.{Refused, Answered, First, Count}
+use Rattle.rules.specs.declared.Reply.TheVariants.{Answered, First, Count}
 use Rattle.rules.specs.Message.{packets_of}
 use Rattle.rules.specs.Ranges.{bad_settings, bad_post}
 use Rattle.rules.specs.Posting.{posted}
@@ -19,7 +20,7 @@ use Rattle.rules.specs.Timer.{timer}
 use Rattle.rules.specs.Requests.{starting}
 use Rattle.rules.specs.Refusals.{side_at}
 use Rattle.rules.specs.Calls.{account}
-use Rattle.agreement.specs.Trace.{opens, posts, emits, acks, responds, ticks, closes, ◌gets◌, ◌reading◌, Agrees}
+use Rattle.agreement.specs.Trace.{opens, posts, emits, acks, responds, ticks, closes, ◌gets◌, ◌refused◌, ◌reading◌, Agrees}
 
 pub seed-2034 :
     Agrees
@@ -38,11 +39,11 @@ pub seed-2034 :
     ∷ ticks 40 70358
     gets Answered Idle 0 0
     ∷ posts 40 8467 1 0 1421040114 1 512 1446470464 5365571591530280135 1999358369
-    gets Refused 6
+    refused refusal.Fence
     ∷ posts 40 4832 2 0 2984590358 0 397 4294966899 4452996566671672913 475636754
     gets First 16777164
     ∷ posts 40 2364 0 0 1587678008 0 65024 4143996587 3188024290910082737 1153907776
-    gets Refused 5
+    refused refusal.Ceiling
     ∷ emits 40 2
     gets Count 2
     reading (209757865 ∷ 6608900 ∷ 2164260809 ∷ 0 ∷ 0 ∷ 590003293 ∷ 562 ∷ 0 ∷ 28 ∷ 7527 ∷ 1987389410 ∷ 0
@@ -51,9 +52,9 @@ pub seed-2034 :
     ∷ posts 40 8133 1 0 79843563 0 255 3289646900 18446744073709551361 798758964
     gets First 16777166
     ∷ posts 64 8741 2 0 4187661886 0 2147483647 1176363781 13761190553834588107 4096703743
-    gets Refused 1
+    refused refusal.Pair
     ∷ opens 40 1 1 1 1 1 1 1 1 1
-    gets Refused 2
+    refused refusal.State
     ∷ emits 40 3
     gets Count 1
     reading (177252009 ∷ 6608900 ∷ 2164260814 ∷ 4294967295 ∷ 4294967041 ∷ 798758964 ∷ 255 ∷ 0 ∷ 28 ∷ 8133 ∷ 3289646900 ∷ 255
@@ -99,11 +100,11 @@ pub seed-2034 :
     ∷ responds 40 16777164 14 256
     gets Answered Done 0 4294966899
     ∷ responds 40 16777165 15 140
-    gets Refused 9
+    refused refusal.Response
     ∷ posts 40 7888 1 1 2459240899 0 223 0 0 2859487205
     gets First 16777170
     ∷ responds 40 16777165 16 142
-    gets Refused 9
+    refused refusal.Response
     ∷ emits 40 64
     gets Count 6
     reading (209757865 ∷ 6608900 ∷ 2164260813 ∷ 1036794056 ∷ 3464480593 ∷ 475636754 ∷ 141 ∷ 0 ∷ 28 ∷ 4832 ∷ 4294967155 ∷ 0
@@ -116,7 +117,7 @@ pub seed-2034 :
     ∷ responds 40 16777165 16 141
     gets Answered Done 1 4294967155 reading (4832 ∷ 0 ∷ [])
     ∷ responds 40 16777168 14 185
-    gets Refused 9
+    refused refusal.Response
     ∷ ticks 40 23410
     gets Answered Idle 0 0
     ∷ posts 40 41 0 0 458050156 0 41 2825497787 3208996035418566361 3493194249
@@ -131,13 +132,13 @@ pub seed-2034 :
     ∷ 176203433 ∷ 6608900 ∷ 2164260817 ∷ 3206877677 ∷ 2996103780 ∷ 3835460040 ∷ 256 ∷ 0 ∷ 28 ∷ 4175 ∷ 2464542773 ∷ 256
     ∷ [])
     ∷ posts 40 6690 1 1 4162245745 0 63999 2145629396 2193788866656938851 2747200122
-    gets Refused 5
+    refused refusal.Ceiling
     ∷ emits 40 1
     gets Count 1
     reading (194029225 ∷ 6608900 ∷ 2164260818 ∷ 0 ∷ 0 ∷ 2859487205 ∷ 223 ∷ 2459240899 ∷ 32 ∷ 7888 ∷ 0 ∷ 223
     ∷ [])
     ∷ ticks 18446744073709551615 131072
-    gets Refused 1
+    refused refusal.Pair
     ∷ emits 40 2
     gets Count 1
     reading (78685865 ∷ 6608900 ∷ 2164260819 ∷ 0 ∷ 0 ∷ 0 ∷ 0 ∷ 0 ∷ 12 ∷ 41 ∷ 2825497787 ∷ 41
@@ -169,7 +170,7 @@ pub seed-2034 :
     ∷ ticks 40 34695
     gets Answered Idle 0 0
     ∷ posts 40 4822 1 0 1228522622 0 64326 933089410 16174191447183204862 127646047
-    gets Refused 5
+    refused refusal.Ceiling
     ∷ acks 40 16777176 21
     gets Answered Done 2 0 reading (1655 ∷ 0 ∷ 6752 ∷ 0 ∷ [])
     ∷ posts 40 4142 1 0 872242584 0 1 332967393 0 4210695187

@@ -2,12 +2,13 @@
 use mathlib.Core.Path.{refl}
 use mathlib.Core.List.{[], ◌∷◌}
 use Rattle.psn.specs.Psn.{distance}
+use Rattle.refusal.specs.declared.Refusal.TheVariants as refusal
 use Rattle.wire.specs.Bytes.{number, bytes}
 use Rattle.wire.specs.Layout.{laid}
 use Rattle.wire.specs.Opcodes.{layout, header_length}
 use Rattle.wire.specs.Header.{write_of, written}
 use Rattle.rules.specs.declared.Answer.TheVariants.{Dropped, Done, Resending, Held, Resumed, Idle, Ended}
-use Rattle.rules.specs.declared.Reply.TheVariants.{Refused, Answered, First, Count}
+use Rattle.rules.specs.declared.Reply.TheVariants.{Answered, First, Count}
 use Rattle.rules.specs.Message.{packets_of}
 use Rattle.rules.specs.Ranges.{bad_settings, bad_post}
 use Rattle.rules.specs.Posting.{posted}
@@ -19,7 +20,7 @@ use Rattle.rules.specs.Timer.{timer}
 use Rattle.rules.specs.Requests.{starting}
 use Rattle.rules.specs.Refusals.{side_at}
 use Rattle.rules.specs.Calls.{account}
-use Rattle.agreement.specs.Trace.{opens, posts, emits, acks, responds, ticks, closes, ◌gets◌, ◌reading◌, Agrees}
+use Rattle.agreement.specs.Trace.{opens, posts, emits, acks, responds, ticks, closes, ◌gets◌, ◌refused◌, ◌reading◌, Agrees}
 
 pub seed-2139 :
     Agrees
@@ -28,7 +29,7 @@ pub seed-2139 :
     ∷ ticks 9 8192
     gets Answered Idle 0 0
     ∷ posts 64 4178790672 2 0 274447510 1 8193 2367279891 8719491277238872006 597810626
-    gets Refused 1
+    refused refusal.Pair
     ∷ ticks 9 4294967295
     gets Answered Idle 0 0
     ∷ acks 9 1 57
@@ -42,11 +43,11 @@ pub seed-2139 :
     ∷ ticks 9 8193
     gets Answered Idle 0 0
     ∷ posts 9 2660529882 0 0 4250521445 0 12289 3190662656 1293038698252576824 2750716739
-    gets Refused 5
+    refused refusal.Ceiling
     ∷ ticks 9 8192
     gets Answered Idle 0 0
     ∷ posts 9 6243 1 1 3205784866 0 8996 3549804101 846817863902063339 3596502990
-    gets Refused 5
+    refused refusal.Ceiling
     ∷ ticks 9 8192
     gets Answered Idle 0 0
     ∷ ticks 9 8193
@@ -112,7 +113,7 @@ pub seed-2139 :
     ∷ closes 9
     gets Answered Done 0 0
     ∷ ticks 9 2296738739
-    gets Refused 2
+    refused refusal.State
     ∷ opens 9 1765488 16777196 31931 5 5 10 7 7 14
     gets Answered Done 0 0
     ∷ posts 9 8648 2 0 1251532867 1 99042 754088830 8573043814510319356 436355334
@@ -120,7 +121,7 @@ pub seed-2139 :
     ∷ ticks 9 66324622
     gets Answered Idle 0 0
     ∷ ticks 0 4294967295
-    gets Refused 2
+    refused refusal.State
     ∷ emits 40 5
     gets Count 2
     reading (93358717 ∷ 3967259 ∷ 2164260826 ∷ 668258686 ∷ 0 ∷ 0 ∷ 0 ∷ 0 ∷ 16 ∷ 2682 ∷ 4294963201 ∷ 4095

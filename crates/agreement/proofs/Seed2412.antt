@@ -2,12 +2,13 @@
 use mathlib.Core.Path.{refl}
 use mathlib.Core.List.{[], ◌∷◌}
 use Rattle.psn.specs.Psn.{distance}
+use Rattle.refusal.specs.declared.Refusal.TheVariants as refusal
 use Rattle.wire.specs.Bytes.{number, bytes}
 use Rattle.wire.specs.Layout.{laid}
 use Rattle.wire.specs.Opcodes.{layout, header_length}
 use Rattle.wire.specs.Header.{write_of, written}
 use Rattle.rules.specs.declared.Answer.TheVariants.{Dropped, Done, Resending, Held, Resumed, Idle, Ended}
-use Rattle.rules.specs.declared.Reply.TheVariants.{Refused, Answered, First, Count}
+use Rattle.rules.specs.declared.Reply.TheVariants.{Answered, First, Count}
 use Rattle.rules.specs.Message.{packets_of}
 use Rattle.rules.specs.Ranges.{bad_settings, bad_post}
 use Rattle.rules.specs.Posting.{posted}
@@ -19,7 +20,7 @@ use Rattle.rules.specs.Timer.{timer}
 use Rattle.rules.specs.Requests.{starting}
 use Rattle.rules.specs.Refusals.{side_at}
 use Rattle.rules.specs.Calls.{account}
-use Rattle.agreement.specs.Trace.{opens, posts, emits, acks, responds, ticks, closes, ◌gets◌, ◌reading◌, Agrees}
+use Rattle.agreement.specs.Trace.{opens, posts, emits, acks, responds, ticks, closes, ◌gets◌, ◌refused◌, ◌reading◌, Agrees}
 
 pub seed-2412 :
     Agrees
@@ -50,7 +51,7 @@ pub seed-2412 :
     ∷ posts 9 4684 1 0 1865515116 1 393 2611890164 2927170036674703350 2630367827
     gets First 9943872
     ∷ posts 9 6421 0 0 3075516854 0 0 4294967296 9329270676224104412 2588096168
-    gets Refused 3
+    refused refusal.Range
     ∷ posts 9 247 2 0 756553637 0 2147482691 507267671 6137319079565393293 1711854744
     gets First 9943874
     ∷ emits 9 2
@@ -59,7 +60,7 @@ pub seed-2412 :
     ∷ 145780213 ∷ 11184177 ∷ 2157427521 ∷ 0 ∷ 0 ∷ 0 ∷ 0 ∷ 0 ∷ 12 ∷ 4684 ∷ 2611890420 ∷ 137
     ∷ [])
     ∷ posts 9 442 0 0 3899652325 0 13 0 13926608631531953987 2584521132
-    gets Refused 7
+    refused refusal.Distance
     ∷ emits 9 5
     gets Count 1
     reading (209743349 ∷ 11184177 ∷ 2157427522 ∷ 1428955951 ∷ 2595814797 ∷ 1711854744 ∷ 2147482691 ∷ 0 ∷ 28 ∷ 247 ∷ 507267671 ∷ 0
@@ -100,7 +101,7 @@ pub seed-2412 :
     ∷ 92333911 ∷ 11790166 ∷ 2160305385 ∷ 3408132815 ∷ 0 ∷ 0 ∷ 0 ∷ 0 ∷ 16 ∷ 696 ∷ 104252827 ∷ 0
     ∷ [])
     ∷ posts 9 4377 0 0 1988961734 0 2147483646 0 1338274191260753755 3849691719
-    gets Refused 5
+    refused refusal.Ceiling
     ∷ posts 53 698 0 0 4156585784 1 473 0 0 4219216115
     gets First 16777184
     ∷ posts 53 9080 2 0 4044382514 1 1023 0 1753616233417347515 2269467826
@@ -110,7 +111,7 @@ pub seed-2412 :
     ∷ posts 53 6843 2 0 3575051937 0 512 2891304326 13668377993290177697 3112274838
     gets First 16777187
     ∷ posts 53 1196 0 0 619365261 0 128688 0 0 3030546877
-    gets Refused 8
+    refused refusal.Room
     ∷ posts 53 1096 0 1 3668251918 0 1023 3769670114 9117251716154005300 3666577118
     gets First 16777188
     ∷ posts 53 545 1 0 2570003195 0 1 4294967295 0 3682194252
@@ -118,7 +119,7 @@ pub seed-2412 :
     ∷ posts 53 2417 0 1 881133610 0 1536 3473115858 4789801314356797922 3235175466
     gets First 16777191
     ∷ responds 53 16777183 15 27
-    gets Refused 9
+    refused refusal.Response
     ∷ ticks 53 18344929
     gets Answered Idle 0 0
     ∷ ticks 53 107328102
@@ -134,9 +135,9 @@ pub seed-2412 :
     ∷ posts 53 1463 2 0 1610518276 0 2048 1994622559 6858520348291012752 2646268819
     gets First 16777194
     ∷ posts 53 4362 1 1 2897310600 1 1 2626101 31752534724121253 3359881688
-    gets Refused 6
+    refused refusal.Fence
     ∷ responds 53 16777183 13 76
-    gets Refused 9
+    refused refusal.Response
     ∷ ticks 53 131072
     gets Answered Resending 0 0
     ∷ posts 53 3870 0 1 571091942 0 513 2985431373 16053220324115203334 2569029569

@@ -2,12 +2,13 @@
 use mathlib.Core.Path.{refl}
 use mathlib.Core.List.{[], ◌∷◌}
 use Rattle.psn.specs.Psn.{distance}
+use Rattle.refusal.specs.declared.Refusal.TheVariants as refusal
 use Rattle.wire.specs.Bytes.{number, bytes}
 use Rattle.wire.specs.Layout.{laid}
 use Rattle.wire.specs.Opcodes.{layout, header_length}
 use Rattle.wire.specs.Header.{write_of, written}
 use Rattle.rules.specs.declared.Answer.TheVariants.{Dropped, Done, Resending, Held, Resumed, Idle, Ended}
-use Rattle.rules.specs.declared.Reply.TheVariants.{Refused, Answered, First, Count}
+use Rattle.rules.specs.declared.Reply.TheVariants.{Answered, First, Count}
 use Rattle.rules.specs.Message.{packets_of}
 use Rattle.rules.specs.Ranges.{bad_settings, bad_post}
 use Rattle.rules.specs.Posting.{posted}
@@ -19,14 +20,14 @@ use Rattle.rules.specs.Timer.{timer}
 use Rattle.rules.specs.Requests.{starting}
 use Rattle.rules.specs.Refusals.{side_at}
 use Rattle.rules.specs.Calls.{account}
-use Rattle.agreement.specs.Trace.{opens, posts, emits, acks, responds, ticks, closes, ◌gets◌, ◌reading◌, Agrees}
+use Rattle.agreement.specs.Trace.{opens, posts, emits, acks, responds, ticks, closes, ◌gets◌, ◌refused◌, ◌reading◌, Agrees}
 
 pub seed-2634 :
     Agrees
     (acks 37 30842832 8
-    gets Refused 2
+    refused refusal.State
     ∷ opens 65 5206766 8388596 40689 1 10 10 0 0 7
-    gets Refused 1
+    refused refusal.Pair
     ∷ opens 37 16589007 16777200 14045 4 130 233 1 7 4
     gets Answered Done 0 0
     ∷ ticks 37 65536
@@ -38,9 +39,9 @@ pub seed-2634 :
     reading (209729245 ∷ 16589007 ∷ 2164260848 ∷ 92306906 ∷ 2027518873 ∷ 478983603 ∷ 359 ∷ 0 ∷ 28 ∷ 3144 ∷ 4294966937 ∷ 0
     ∷ [])
     ∷ posts 37 6040 1 1 374042815 1 520193 4029537863 2415342097985181242 4112031553
-    gets Refused 5
+    refused refusal.Ceiling
     ∷ posts 37 5745 2 0 1243825143 0 0 4294967296 12118602818158935559 3177225715
-    gets Refused 3
+    refused refusal.Range
     ∷ emits 37 6
     gets Count 0
     ∷ posts 37 2279 0 0 265369878 0 0 1881815291 10590132193097487228 3066218590
@@ -50,7 +51,7 @@ pub seed-2634 :
     ∷ ticks 37 60059
     gets Answered Idle 0 0
     ∷ emits 37 65
-    gets Refused 3
+    refused refusal.Range
     ∷ acks 37 16777201 10
     gets Answered Dropped 0 0
     ∷ emits 37 6
@@ -87,13 +88,13 @@ pub seed-2634 :
     ∷ responds 37 16777205 13 2048
     gets Answered Resending 0 0
     ∷ responds 37 16777206 14 2048
-    gets Refused 9
+    refused refusal.Response
     ∷ posts 37 9286 0 1 2924647856 0 2048 3262324959 2461353764699733574 1006356066
-    gets Refused 8
+    refused refusal.Room
     ∷ acks 37 16777207 29
     gets Answered Resending 0 0
     ∷ responds 37 16777207 15 2047
-    gets Refused 9
+    refused refusal.Response
     ∷ emits 37 6
     gets Count 6
     reading (209729245 ∷ 16589007 ∷ 2164260851 ∷ 0 ∷ 0 ∷ 877914128 ∷ 8192 ∷ 0 ∷ 28 ∷ 3521 ∷ 2311268901 ∷ 0
@@ -104,15 +105,15 @@ pub seed-2634 :
     ∷ 25179869 ∷ 16589007 ∷ 2164260859 ∷ 0 ∷ 0 ∷ 0 ∷ 0 ∷ 0 ∷ 12 ∷ 9364 ∷ 6144 ∷ 2048
     ∷ [])
     ∷ responds 37 16777207 15 2048
-    gets Refused 9
+    refused refusal.Response
     ∷ acks 37 16777213 6
     gets Answered Dropped 0 0
     ∷ acks 37 16777212 10
     gets Answered Dropped 0 0
     ∷ posts 37 6345 0 0 2905647892 0 57651 1473540436 15414384124949926835 783723652
-    gets Refused 8
+    refused refusal.Room
     ∷ posts 37 1571 2 0 3707045504 0 4097 3123842112 13372887744356981185 3733903175
-    gets Refused 8
+    refused refusal.Room
     ∷ emits 37 5
     gets Count 5
     reading (25179869 ∷ 16589007 ∷ 2164260860 ∷ 0 ∷ 0 ∷ 0 ∷ 0 ∷ 0 ∷ 12 ∷ 9364 ∷ 8192 ∷ 2048
@@ -146,7 +147,7 @@ pub seed-2634 :
     ∷ 25179869 ∷ 16589007 ∷ 2164260861 ∷ 0 ∷ 0 ∷ 0 ∷ 0 ∷ 0 ∷ 12 ∷ 9364 ∷ 10240 ∷ 2048
     ∷ [])
     ∷ posts 37 8013 0 1 1966029266 0 702 1358508422 0 3741696553
-    gets Refused 8
+    refused refusal.Room
     ∷ emits 37 4
     gets Count 4
     reading (25179869 ∷ 16589007 ∷ 2164260862 ∷ 0 ∷ 0 ∷ 0 ∷ 0 ∷ 0 ∷ 12 ∷ 9364 ∷ 12288 ∷ 2048
@@ -163,7 +164,7 @@ pub seed-2634 :
     ∷ acks 37 2 5
     gets Answered Resending 0 0
     ∷ posts 37 1083035895 0 0 2499826928 0 69632 4294897664 533316806743276096 1691486117
-    gets Refused 8
+    refused refusal.Room
     ∷ emits 37 7
     gets Count 7
     reading (209729245 ∷ 16589007 ∷ 2164260851 ∷ 0 ∷ 0 ∷ 877914128 ∷ 8192 ∷ 0 ∷ 28 ∷ 3521 ∷ 2311268901 ∷ 0
@@ -186,7 +187,7 @@ pub seed-2634 :
     ∷ acks 37 3 96
     gets Answered Resending 0 0
     ∷ emits 37 0
-    gets Refused 3
+    refused refusal.Range
     ∷ emits 37 4
     gets Count 4
     reading (209729245 ∷ 16589007 ∷ 2164260851 ∷ 0 ∷ 0 ∷ 877914128 ∷ 8192 ∷ 0 ∷ 28 ∷ 3521 ∷ 2311268901 ∷ 0
@@ -217,9 +218,9 @@ pub seed-2634 :
     ∷ 25179869 ∷ 16589007 ∷ 2147483655 ∷ 0 ∷ 0 ∷ 0 ∷ 0 ∷ 0 ∷ 12 ∷ 9364 ∷ 30720 ∷ 2048
     ∷ [])
     ∷ acks 37 224 255
-    gets Refused 3
+    refused refusal.Range
     ∷ posts 37 4091 2 0 3020428026 0 2623 442635558 721313532273282085 3114060056
-    gets Refused 8
+    refused refusal.Room
     ∷ acks 37 230 11
     gets Answered Dropped 0 0
     ∷ emits 37 24
@@ -250,7 +251,7 @@ pub seed-2634 :
     ∷ 25179869 ∷ 16589007 ∷ 2147483679 ∷ 0 ∷ 0 ∷ 0 ∷ 0 ∷ 0 ∷ 12 ∷ 9364 ∷ 79872 ∷ 2048
     ∷ [])
     ∷ posts 37 6460 1 0 4153121005 0 6144 0 18446744073709545472 2180451317
-    gets Refused 8
+    refused refusal.Room
     ∷ ticks 37 65536
     gets Answered Resending 0 0
     ∷ starting

@@ -2,12 +2,13 @@
 use mathlib.Core.Path.{refl}
 use mathlib.Core.List.{[], ◌∷◌}
 use Rattle.psn.specs.Psn.{distance}
+use Rattle.refusal.specs.declared.Refusal.TheVariants as refusal
 use Rattle.wire.specs.Bytes.{number, bytes}
 use Rattle.wire.specs.Layout.{laid}
 use Rattle.wire.specs.Opcodes.{layout, header_length}
 use Rattle.wire.specs.Header.{write_of, written}
 use Rattle.rules.specs.declared.Answer.TheVariants.{Dropped, Done, Resending, Held, Resumed, Idle, Ended}
-use Rattle.rules.specs.declared.Reply.TheVariants.{Refused, Answered, First, Count}
+use Rattle.rules.specs.declared.Reply.TheVariants.{Answered, First, Count}
 use Rattle.rules.specs.Message.{packets_of}
 use Rattle.rules.specs.Ranges.{bad_settings, bad_post}
 use Rattle.rules.specs.Posting.{posted}
@@ -19,7 +20,7 @@ use Rattle.rules.specs.Timer.{timer}
 use Rattle.rules.specs.Requests.{starting}
 use Rattle.rules.specs.Refusals.{side_at}
 use Rattle.rules.specs.Calls.{account}
-use Rattle.agreement.specs.Trace.{opens, posts, emits, acks, responds, ticks, closes, ◌gets◌, ◌reading◌, Agrees}
+use Rattle.agreement.specs.Trace.{opens, posts, emits, acks, responds, ticks, closes, ◌gets◌, ◌refused◌, ◌reading◌, Agrees}
 
 pub seed-2688 :
     Agrees
@@ -58,9 +59,9 @@ pub seed-2688 :
     ∷ emits 52 5
     gets Count 0
     ∷ posts 52 8182 1 0 3858565466 0 2147483648 2147483648 2647318667598367786 750143838
-    gets Refused 3
+    refused refusal.Range
     ∷ posts 52 985249322 1 0 379289590 0 62431 434914892 2456276683007982155 1878456809
-    gets Refused 8
+    refused refusal.Room
     ∷ posts 52 1527 0 0 2742786587 0 1 4237321409 6986209614013567688 4178224465
     gets First 16777177
     ∷ ticks 52 2009117891
@@ -90,13 +91,13 @@ pub seed-2688 :
     ∷ acks 52 16777177 96
     gets Answered Resending 0 0
     ∷ posts 51 1206 2 1 3766979172 0 256 2201985865 18446744073709551360 381470217
-    gets Refused 3
+    refused refusal.Range
     ∷ posts 51 7647 1 1 1445617352 0 1019 4294966277 6737506686477949520 209549870
     gets First 11238806
     ∷ ticks 51 7666
     gets Answered Idle 0 0
     ∷ emits 18446744073709551615 5
-    gets Refused 1
+    refused refusal.Pair
     ∷ emits 51 64
     gets Count 6
     reading (76584179 ∷ 1045576 ∷ 2158722451 ∷ 0 ∷ 0 ∷ 0 ∷ 0 ∷ 0 ∷ 12 ∷ 1388 ∷ 294893704 ∷ 255
@@ -113,17 +114,17 @@ pub seed-2688 :
     ∷ acks 51 11238803 99
     gets Answered Ended 3 0 reading (1388 ∷ 1 ∷ 6229 ∷ 1 ∷ 7647 ∷ 1 ∷ [])
     ∷ posts 51 1 1 0 0 0 3659 0 0 0
-    gets Refused 2
+    refused refusal.State
     ∷ emits 51 23
-    gets Refused 2
+    refused refusal.State
     ∷ opens 51 1 1 1 3 1 1 1 1 1
-    gets Refused 2
+    refused refusal.State
     ∷ responds 51 15428577 13 256
-    gets Refused 2
+    refused refusal.State
     ∷ closes 51
     gets Answered Done 0 0
     ∷ opens 51 14634390 16777171 37324 1 12 253 1 2 6
-    gets Refused 8
+    refused refusal.Room
     ∷ opens 51 13502849 16777182 23355 5 8 251 0 1 0
     gets Answered Done 0 0
     ∷ posts 52 2944 1 1 4121125989 0 256 1539123313 6482576253324378149 914228525
@@ -155,11 +156,11 @@ pub seed-2688 :
     ∷ posts 63 9903 2 0 3768498179 0 21503 1934147088 13579334107445012055 2017171617
     gets First 1103707
     ∷ opens 48 15624236 8388596 12132 1 3 256 7 0 8
-    gets Refused 8
+    refused refusal.Room
     ∷ ticks 48 1901345739
-    gets Refused 2
+    refused refusal.State
     ∷ opens 48 10626986 16777180 1814 1 8 8 7 2 15
-    gets Refused 8
+    refused refusal.Room
     ∷ opens 48 11309507 16777210 41044 1 1 1 2 0 0
     gets Answered Done 0 0
     ∷ [])

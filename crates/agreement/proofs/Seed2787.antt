@@ -2,12 +2,13 @@
 use mathlib.Core.Path.{refl}
 use mathlib.Core.List.{[], ◌∷◌}
 use Rattle.psn.specs.Psn.{distance}
+use Rattle.refusal.specs.declared.Refusal.TheVariants as refusal
 use Rattle.wire.specs.Bytes.{number, bytes}
 use Rattle.wire.specs.Layout.{laid}
 use Rattle.wire.specs.Opcodes.{layout, header_length}
 use Rattle.wire.specs.Header.{write_of, written}
 use Rattle.rules.specs.declared.Answer.TheVariants.{Dropped, Done, Resending, Held, Resumed, Idle, Ended}
-use Rattle.rules.specs.declared.Reply.TheVariants.{Refused, Answered, First, Count}
+use Rattle.rules.specs.declared.Reply.TheVariants.{Answered, First, Count}
 use Rattle.rules.specs.Message.{packets_of}
 use Rattle.rules.specs.Ranges.{bad_settings, bad_post}
 use Rattle.rules.specs.Posting.{posted}
@@ -19,20 +20,20 @@ use Rattle.rules.specs.Timer.{timer}
 use Rattle.rules.specs.Requests.{starting}
 use Rattle.rules.specs.Refusals.{side_at}
 use Rattle.rules.specs.Calls.{account}
-use Rattle.agreement.specs.Trace.{opens, posts, emits, acks, responds, ticks, closes, ◌gets◌, ◌reading◌, Agrees}
+use Rattle.agreement.specs.Trace.{opens, posts, emits, acks, responds, ticks, closes, ◌gets◌, ◌refused◌, ◌reading◌, Agrees}
 
 pub seed-2787 :
     Agrees
     (opens 63 9728241 8388565 18328 1 9 14 0 6 16
     gets Answered Done 0 0
     ∷ posts 4294967297 4686 1 0 3158852168 1 1023 4127761092 0 3758567965
-    gets Refused 1
+    refused refusal.Pair
     ∷ posts 63 3491 0 1 2976977129 0 2147483647 2029504071 0 2165231177
-    gets Refused 5
+    refused refusal.Ceiling
     ∷ posts 63 2623 2 0 3135091678 0 710 1630847538 17931468268331147194 1645988375
     gets First 8388565
     ∷ emits 63 65
-    gets Refused 3
+    refused refusal.Range
     ∷ opens 28 5739322 16777173 58605 2 1 187 6 0 1
     gets Answered Done 0 0
     ∷ posts 28 1962 1 1 741057169 1 0 3986675453 2949337421808086780 4093049237
@@ -79,7 +80,7 @@ pub seed-2787 :
     ∷ acks 63 8388588 15
     gets Answered Dropped 0 0
     ∷ posts 63 9430 2 0 2061574316 0 2147483647 2147483650 4154087413836030512 1101832076
-    gets Refused 3
+    refused refusal.Range
     ∷ posts 63 9748 2 0 3499840586 1 767 1799955017 0 3298717325
     gets First 8388588
     ∷ posts 63 3694 1 1 3436082160 0 214 1914583307 7136996830448721343 2743817947
@@ -102,19 +103,19 @@ pub seed-2787 :
     ∷ responds 63 8388589 14 256
     gets Answered Done 0 1799955273
     ∷ posts 63 1458 2 0 1097948724 1 193 3745849791 4802838231498146997 2601726312
-    gets Refused 6
+    refused refusal.Fence
     ∷ posts 63 1113 1 1 2623546546 1 286 3879466722 18446744073709551330 475604883
-    gets Refused 6
+    refused refusal.Fence
     ∷ emits 63 6
     gets Count 1
     reading (176173353 ∷ 3673860 ∷ 2155872241 ∷ 2620023895 ∷ 2068788677 ∷ 1790081377 ∷ 256 ∷ 0 ∷ 28 ∷ 582 ∷ 0 ∷ 256
     ∷ [])
     ∷ responds 63 8388591 16 255
-    gets Refused 9
+    refused refusal.Response
     ∷ ticks 63 2147483647
     gets Answered Idle 0 0
     ∷ posts 28 943 0 1 497747920 0 1535 4294965762 12164494853490432422 1340336992
-    gets Refused 3
+    refused refusal.Range
     ∷ ticks 28 8192
     gets Answered Resending 0 0
     ∷ posts 28 8722 2 0 3291510629 0 1535 2826999096 16707888764557551247 1837904864
@@ -133,7 +134,7 @@ pub seed-2787 :
     ∷ posts 63 6781 0 0 437558167 0 64001 0 15101166854858960784 3118981137
     gets First 8388594
     ∷ posts 63 9175 1 1 4191949553 0 3 1827833909 17390399560282878189 3952012624
-    gets Refused 8
+    refused refusal.Room
     ∷ acks 63 8388590 28
     gets Answered Resending 0 0
     ∷ emits 63 59
@@ -217,11 +218,11 @@ pub seed-2787 :
     ∷ acks 63 8388655 56
     gets Answered Held 0 0
     ∷ acks 64 16001171 4
-    gets Refused 1
+    refused refusal.Pair
     ∷ posts 63 4143 2 0 747118589 0 729 1086034928 1724219460892480409 3459826894
     gets First 8388845
     ∷ acks 63 8388655 148
-    gets Refused 3
+    refused refusal.Range
     ∷ acks 63 8388655 26
     gets Answered Done 0 0
     ∷ posts 63 8398 2 0 2697410868 0 493 1642659297 15360715075166581715 2711365769

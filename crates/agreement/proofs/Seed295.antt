@@ -2,12 +2,13 @@
 use mathlib.Core.Path.{refl}
 use mathlib.Core.List.{[], ◌∷◌}
 use Rattle.psn.specs.Psn.{distance}
+use Rattle.refusal.specs.declared.Refusal.TheVariants as refusal
 use Rattle.wire.specs.Bytes.{number, bytes}
 use Rattle.wire.specs.Layout.{laid}
 use Rattle.wire.specs.Opcodes.{layout, header_length}
 use Rattle.wire.specs.Header.{write_of, written}
 use Rattle.rules.specs.declared.Answer.TheVariants.{Dropped, Done, Resending, Held, Resumed, Idle, Ended}
-use Rattle.rules.specs.declared.Reply.TheVariants.{Refused, Answered, First, Count}
+use Rattle.rules.specs.declared.Reply.TheVariants.{Answered, First, Count}
 use Rattle.rules.specs.Message.{packets_of}
 use Rattle.rules.specs.Ranges.{bad_settings, bad_post}
 use Rattle.rules.specs.Posting.{posted}
@@ -19,7 +20,7 @@ use Rattle.rules.specs.Timer.{timer}
 use Rattle.rules.specs.Requests.{starting}
 use Rattle.rules.specs.Refusals.{side_at}
 use Rattle.rules.specs.Calls.{account}
-use Rattle.agreement.specs.Trace.{opens, posts, emits, acks, responds, ticks, closes, ◌gets◌, ◌reading◌, Agrees}
+use Rattle.agreement.specs.Trace.{opens, posts, emits, acks, responds, ticks, closes, ◌gets◌, ◌refused◌, ◌reading◌, Agrees}
 
 pub seed-295 :
     Agrees
@@ -74,7 +75,7 @@ pub seed-295 :
     reading (209749545 ∷ 11267979 ∷ 2164260828 ∷ 1012720293 ∷ 3178705491 ∷ 3033257521 ∷ 0 ∷ 0 ∷ 28 ∷ 2852 ∷ 0 ∷ 0
     ∷ [])
     ∷ responds 65 16777179 13 0
-    gets Refused 1
+    refused refusal.Pair
     ∷ posts 42 1680 1 0 98871367 0 352 0 10618674569569352934 3062917968
     gets First 16777181
     ∷ posts 42 2283 1 1 656908968 0 1023 793159161 10451314293890049608 3209193871
@@ -131,7 +132,7 @@ pub seed-295 :
     ∷ acks 42 16777206 41
     gets Answered Ended 2 0 reading (2952 ∷ 1 ∷ 5185 ∷ 1 ∷ [])
     ∷ opens 42 1 1 1 5 1 1 1 1 1
-    gets Refused 2
+    refused refusal.State
     ∷ opens 28 13224980 8388579 61029 1 12 12 7 7 0
     gets Answered Done 0 0
     ∷ posts 28 5188 2 0 561718526 0 513 209613961 10692257733987882168 3872134056
@@ -149,7 +150,7 @@ pub seed-295 :
     reading (209776229 ∷ 13224980 ∷ 2155872228 ∷ 2489485250 ∷ 1363498424 ∷ 3872134056 ∷ 257 ∷ 0 ∷ 28 ∷ 5188 ∷ 209614217 ∷ 0
     ∷ [])
     ∷ responds 28 8388580 14 257
-    gets Refused 9
+    refused refusal.Response
     ∷ responds 25 8388592 14 256
     gets Answered Dropped 0 0
     ∷ closes 42

@@ -2,12 +2,13 @@
 use mathlib.Core.Path.{refl}
 use mathlib.Core.List.{[], ◌∷◌}
 use Rattle.psn.specs.Psn.{distance}
+use Rattle.refusal.specs.declared.Refusal.TheVariants as refusal
 use Rattle.wire.specs.Bytes.{number, bytes}
 use Rattle.wire.specs.Layout.{laid}
 use Rattle.wire.specs.Opcodes.{layout, header_length}
 use Rattle.wire.specs.Header.{write_of, written}
 use Rattle.rules.specs.declared.Answer.TheVariants.{Dropped, Done, Resending, Held, Resumed, Idle, Ended}
-use Rattle.rules.specs.declared.Reply.TheVariants.{Refused, Answered, First, Count}
+use Rattle.rules.specs.declared.Reply.TheVariants.{Answered, First, Count}
 use Rattle.rules.specs.Message.{packets_of}
 use Rattle.rules.specs.Ranges.{bad_settings, bad_post}
 use Rattle.rules.specs.Posting.{posted}
@@ -19,7 +20,7 @@ use Rattle.rules.specs.Timer.{timer}
 use Rattle.rules.specs.Requests.{starting}
 use Rattle.rules.specs.Refusals.{side_at}
 use Rattle.rules.specs.Calls.{account}
-use Rattle.agreement.specs.Trace.{opens, posts, emits, acks, responds, ticks, closes, ◌gets◌, ◌reading◌, Agrees}
+use Rattle.agreement.specs.Trace.{opens, posts, emits, acks, responds, ticks, closes, ◌gets◌, ◌refused◌, ◌reading◌, Agrees}
 
 pub seed-33 :
     Agrees
@@ -49,7 +50,7 @@ pub seed-33 :
     ∷ ticks 33 524289
     gets Answered Ended 5 0 reading (7699 ∷ 1 ∷ 4467 ∷ 1 ∷ 1953 ∷ 1 ∷ 3367 ∷ 1 ∷ 6283 ∷ 1 ∷ [])
     ∷ closes 65
-    gets Refused 1
+    refused refusal.Pair
     ∷ closes 33
     gets Answered Done 0 0
     ∷ opens 33 16423377 16777170 48128 1 7 256 1 2 0
@@ -71,7 +72,7 @@ pub seed-33 :
     ∷ 25169076 ∷ 14566929 ∷ 2164260822 ∷ 0 ∷ 0 ∷ 0 ∷ 0 ∷ 0 ∷ 12 ∷ 8888 ∷ 2048 ∷ 512
     ∷ [])
     ∷ emits 13 7
-    gets Refused 2
+    refused refusal.State
     ∷ ticks 33 8026
     gets Answered Idle 0 0
     ∷ emits 33 8
@@ -113,7 +114,7 @@ pub seed-33 :
     ∷ ticks 33 38046
     gets Answered Idle 0 0
     ∷ responds 33 16777183 13 230
-    gets Refused 9
+    refused refusal.Response
     ∷ emits 33 3
     gets Count 3
     reading (25169076 ∷ 14566929 ∷ 2164260831 ∷ 0 ∷ 0 ∷ 0 ∷ 0 ∷ 0 ∷ 12 ∷ 8888 ∷ 6656 ∷ 512
@@ -123,7 +124,7 @@ pub seed-33 :
     ∷ acks 33 16777188 27
     gets Answered Done 0 0
     ∷ posts 33 6853 0 1 1080565344 0 3583 4294963714 14482463927008734893 3429142547
-    gets Refused 3
+    refused refusal.Range
     ∷ emits 33 6
     gets Count 6
     reading (25169076 ∷ 14566929 ∷ 2164260837 ∷ 0 ∷ 0 ∷ 0 ∷ 0 ∷ 0 ∷ 12 ∷ 8888 ∷ 9728 ∷ 512
@@ -221,7 +222,7 @@ pub seed-33 :
     ∷ emits 33 6
     gets Count 0
     ∷ posts 33 3489 1 1 93052959 1 29695 2116240351 18146208237300001178 4048313417
-    gets Refused 6
+    refused refusal.Fence
     ∷ ticks 33 59564
     gets Answered Idle 0 0
     ∷ acks 33 43 35
@@ -229,7 +230,7 @@ pub seed-33 :
     ∷ posts 33 4065772510 0 0 1072723904 0 119 518634609 6842274319378604772 1789845361
     gets First 227
     ∷ ticks 4294967297 13773
-    gets Refused 1
+    refused refusal.Pair
     ∷ acks 33 43 41
     gets Answered Ended 6 0 reading (8888 ∷ 1 ∷ 7947 ∷ 1 ∷ 1290 ∷ 1 ∷ 4610 ∷ 1 ∷ 7734 ∷ 1 ∷ 4065772510 ∷ 1 ∷ [])
     ∷ closes 33

@@ -2,12 +2,13 @@
 use mathlib.Core.Path.{refl}
 use mathlib.Core.List.{[], ◌∷◌}
 use Rattle.psn.specs.Psn.{distance}
+use Rattle.refusal.specs.declared.Refusal.TheVariants as refusal
 use Rattle.wire.specs.Bytes.{number, bytes}
 use Rattle.wire.specs.Layout.{laid}
 use Rattle.wire.specs.Opcodes.{layout, header_length}
 use Rattle.wire.specs.Header.{write_of, written}
 use Rattle.rules.specs.declared.Answer.TheVariants.{Dropped, Done, Resending, Held, Resumed, Idle, Ended}
-use Rattle.rules.specs.declared.Reply.TheVariants.{Refused, Answered, First, Count}
+use Rattle.rules.specs.declared.Reply.TheVariants.{Answered, First, Count}
 use Rattle.rules.specs.Message.{packets_of}
 use Rattle.rules.specs.Ranges.{bad_settings, bad_post}
 use Rattle.rules.specs.Posting.{posted}
@@ -19,7 +20,7 @@ use Rattle.rules.specs.Timer.{timer}
 use Rattle.rules.specs.Requests.{starting}
 use Rattle.rules.specs.Refusals.{side_at}
 use Rattle.rules.specs.Calls.{account}
-use Rattle.agreement.specs.Trace.{opens, posts, emits, acks, responds, ticks, closes, ◌gets◌, ◌reading◌, Agrees}
+use Rattle.agreement.specs.Trace.{opens, posts, emits, acks, responds, ticks, closes, ◌gets◌, ◌refused◌, ◌reading◌, Agrees}
 
 pub seed-490 :
     Agrees
@@ -53,9 +54,9 @@ pub seed-490 :
     ∷ responds 10 16777167 14 256
     gets Answered Done 0 3376341887
     ∷ responds 10 16777169 14 256
-    gets Refused 9
+    refused refusal.Response
     ∷ posts 10 4333 2 0 3621951861 0 1024 200930075 14778119633104334965 727550470
-    gets Refused 7
+    refused refusal.Distance
     ∷ acks 10 16777168 44
     gets Answered Held 0 0
     ∷ responds 10 16777168 13 256
@@ -74,7 +75,7 @@ pub seed-490 :
     ∷ acks 10 16777178 1
     gets Answered Resending 0 0
     ∷ posts 10 1034 1 0 4006815327 0 256 4294967041 8749276164439062974 3152605449
-    gets Refused 3
+    refused refusal.Range
     ∷ emits 10 4
     gets Count 4
     reading (209750498 ∷ 1781117 ∷ 2164260817 ∷ 4294967295 ∷ 4294967040 ∷ 3953443484 ∷ 256 ∷ 0 ∷ 28 ∷ 3606 ∷ 3376342399 ∷ 0
@@ -83,7 +84,7 @@ pub seed-490 :
     ∷ 25201122 ∷ 1781117 ∷ 2164260823 ∷ 0 ∷ 0 ∷ 0 ∷ 0 ∷ 0 ∷ 12 ∷ 2450 ∷ 1957365965 ∷ 256
     ∷ [])
     ∷ acks 11 16777169 21
-    gets Refused 2
+    refused refusal.State
     ∷ responds 10 16777169 16 256
     gets Answered Done 1 3376342399 reading (3606 ∷ 0 ∷ [])
     ∷ emits 10 36
@@ -95,9 +96,9 @@ pub seed-490 :
     ∷ 209750498 ∷ 1781117 ∷ 2164260828 ∷ 326878183 ∷ 509266488 ∷ 262468382 ∷ 2147479809 ∷ 0 ∷ 28 ∷ 9038 ∷ 1018832536 ∷ 0
     ∷ [])
     ∷ posts 10 2309 2 0 4045885123 1 255 100269024 5359679403688881518 1914079946
-    gets Refused 6
+    refused refusal.Fence
     ∷ posts 10 1935 2 0 2189928035 0 1024 4087120845 6089750896877243746 3647609173
-    gets Refused 7
+    refused refusal.Distance
     ∷ acks 10 3341483 1
     gets Answered Resending 0 0
     ∷ posts 10 8890 1 0 4092087607 0 0 3751166193 12063954478725899776 3596713867
@@ -196,7 +197,7 @@ pub seed-490 :
     ∷ 125850447 ∷ 11282274 ∷ 2147483668 ∷ 0 ∷ 0 ∷ 0 ∷ 0 ∷ 0 ∷ 12 ∷ 5517 ∷ 2926433222 ∷ 512
     ∷ [])
     ∷ posts 10 2909 0 1 1503962263 0 195 2713751275 0 636482885
-    gets Refused 8
+    refused refusal.Room
     ∷ closes 10
     gets Answered Done 2 0 reading (6783 ∷ 1 ∷ 5517 ∷ 1 ∷ [])
     ∷ opens 10 8661718 16777177 57903 1 10 15 6 2 6
@@ -241,7 +242,7 @@ pub seed-490 :
     reading (209773103 ∷ 8661718 ∷ 2164260826 ∷ 0 ∷ 0 ∷ 4059210925 ∷ 512 ∷ 0 ∷ 28 ∷ 7900 ∷ 2477536370 ∷ 0
     ∷ [])
     ∷ posts 10 4320 0 0 359232528 0 0 4294967296 12290842846691430362 1704774145
-    gets Refused 3
+    refused refusal.Range
     ∷ posts 10 7176 2 0 1771697803 0 769 4074461396 3409615005134005692 3492544699
     gets First 16777180
     ∷ emits 10 7

@@ -2,12 +2,13 @@
 use mathlib.Core.Path.{refl}
 use mathlib.Core.List.{[], ◌∷◌}
 use Rattle.psn.specs.Psn.{distance}
+use Rattle.refusal.specs.declared.Refusal.TheVariants as refusal
 use Rattle.wire.specs.Bytes.{number, bytes}
 use Rattle.wire.specs.Layout.{laid}
 use Rattle.wire.specs.Opcodes.{layout, header_length}
 use Rattle.wire.specs.Header.{write_of, written}
 use Rattle.rules.specs.declared.Answer.TheVariants.{Dropped, Done, Resending, Held, Resumed, Idle, Ended}
-use Rattle.rules.specs.declared.Reply.TheVariants.{Refused, Answered, First, Count}
+use Rattle.rules.specs.declared.Reply.TheVariants.{Answered, First, Count}
 use Rattle.rules.specs.Message.{packets_of}
 use Rattle.rules.specs.Ranges.{bad_settings, bad_post}
 use Rattle.rules.specs.Posting.{posted}
@@ -19,7 +20,7 @@ use Rattle.rules.specs.Timer.{timer}
 use Rattle.rules.specs.Requests.{starting}
 use Rattle.rules.specs.Refusals.{side_at}
 use Rattle.rules.specs.Calls.{account}
-use Rattle.agreement.specs.Trace.{opens, posts, emits, acks, responds, ticks, closes, ◌gets◌, ◌reading◌, Agrees}
+use Rattle.agreement.specs.Trace.{opens, posts, emits, acks, responds, ticks, closes, ◌gets◌, ◌refused◌, ◌reading◌, Agrees}
 
 pub seed-625 :
     Agrees
@@ -46,7 +47,7 @@ pub seed-625 :
     ∷ ticks 63 33554432
     gets Answered Idle 0 0
     ∷ ticks 20 3297285573
-    gets Refused 2
+    refused refusal.State
     ∷ starting
     gets Answered Done 0 0
     ∷ opens 20 11436333 10851860 57286 5 5 5 0 7 18
@@ -60,7 +61,7 @@ pub seed-625 :
     ∷ opens 63 13152099 16777187 23607 5 194 194 0 0 10
     gets Answered Done 0 0
     ∷ opens 63 1 1 1 1 1 1 1 1 1
-    gets Refused 2
+    refused refusal.State
     ∷ ticks 63 4294967295
     gets Answered Idle 0 0
     ∷ ticks 63 3996596
@@ -92,7 +93,7 @@ pub seed-625 :
     ∷ closes 20
     gets Answered Done 0 0
     ∷ posts 20 1 1 0 0 0 1150 0 0 0
-    gets Refused 2
+    refused refusal.State
     ∷ opens 20 1 1 1 5 1 1 1 1 1
     gets Answered Done 0 0
     ∷ emits 63 8
@@ -114,13 +115,13 @@ pub seed-625 :
     ∷ posts 20 5958 0 0 3071078259 0 3299 4294963997 2373204046033608640 2333328856
     gets First 1
     ∷ opens 20 1 1 1 1 1 1 1 1 1
-    gets Refused 2
+    refused refusal.State
     ∷ ticks 20 6510
     gets Answered Idle 0 0
     ∷ responds 20 1 13 70
     gets Answered Dropped 0 0
     ∷ emits 20 0
-    gets Refused 3
+    refused refusal.Range
     ∷ acks 20 1 0
     gets Answered Dropped 0 0
     ∷ emits 20 8
@@ -142,7 +143,7 @@ pub seed-625 :
     ∷ closes 63
     gets Answered Done 0 0
     ∷ closes 63
-    gets Refused 2
+    refused refusal.State
     ∷ opens 63 11285263 8388573 55419 1 7 12 2 2 16
     gets Answered Done 0 0
     ∷ acks 63 8388573 63
@@ -154,7 +155,7 @@ pub seed-625 :
     ∷ responds 63 8388572 14 178
     gets Answered Dropped 0 0
     ∷ posts 63 1584 0 0 1068752355 0 65388 917419992 9215177611198979020 2816036210
-    gets Refused 5
+    refused refusal.Ceiling
     ∷ responds 63 8388573 14 261
     gets Answered Dropped 0 0
     ∷ ticks 63 268435455

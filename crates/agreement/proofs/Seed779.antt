@@ -2,12 +2,13 @@
 use mathlib.Core.Path.{refl}
 use mathlib.Core.List.{[], ◌∷◌}
 use Rattle.psn.specs.Psn.{distance}
+use Rattle.refusal.specs.declared.Refusal.TheVariants as refusal
 use Rattle.wire.specs.Bytes.{number, bytes}
 use Rattle.wire.specs.Layout.{laid}
 use Rattle.wire.specs.Opcodes.{layout, header_length}
 use Rattle.wire.specs.Header.{write_of, written}
 use Rattle.rules.specs.declared.Answer.TheVariants.{Dropped, Done, Resending, Held, Resumed, Idle, Ended}
-use Rattle.rules.specs.declared.Reply.TheVariants.{Refused, Answered, First, Count}
+use Rattle.rules.specs.declared.Reply.TheVariants.{Answered, First, Count}
 use Rattle.rules.specs.Message.{packets_of}
 use Rattle.rules.specs.Ranges.{bad_settings, bad_post}
 use Rattle.rules.specs.Posting.{posted}
@@ -19,12 +20,12 @@ use Rattle.rules.specs.Timer.{timer}
 use Rattle.rules.specs.Requests.{starting}
 use Rattle.rules.specs.Refusals.{side_at}
 use Rattle.rules.specs.Calls.{account}
-use Rattle.agreement.specs.Trace.{opens, posts, emits, acks, responds, ticks, closes, ◌gets◌, ◌reading◌, Agrees}
+use Rattle.agreement.specs.Trace.{opens, posts, emits, acks, responds, ticks, closes, ◌gets◌, ◌refused◌, ◌reading◌, Agrees}
 
 pub seed-779 :
     Agrees
     (opens 63 6044409 16777211 15578 1 5 5 18446744073709551615 0 1
-    gets Refused 3
+    refused refusal.Range
     ∷ opens 63 4982537 16777198 33493 2 7 256 1 0 8
     gets Answered Done 0 0
     ∷ acks 63 16777198 47
@@ -126,21 +127,21 @@ pub seed-779 :
     ∷ 125862613 ∷ 4982537 ∷ 2147483698 ∷ 0 ∷ 0 ∷ 0 ∷ 0 ∷ 0 ∷ 12 ∷ 3068 ∷ 4294871395 ∷ 512
     ∷ [])
     ∷ emits 63 65
-    gets Refused 3
+    refused refusal.Range
     ∷ ticks 63 1048576
     gets Answered Ended 4 0 reading (6406 ∷ 1 ∷ 2330 ∷ 1 ∷ 7696 ∷ 1 ∷ 3068 ∷ 1 ∷ [])
     ∷ closes 63
     gets Answered Done 0 0
     ∷ responds 4 16723953 15 256
-    gets Refused 2
+    refused refusal.State
     ∷ opens 4 15882236 16777165 33461 1 9 256 1 7 2
     gets Answered Done 0 0
     ∷ emits 4 7
     gets Count 0
     ∷ posts 4 8040 1 0 888811632 0 768 18446744073709551615 6177306923297939902 3495634600
-    gets Refused 3
+    refused refusal.Range
     ∷ emits 4 18446744073709551615
-    gets Refused 3
+    refused refusal.Range
     ∷ posts 4 1566 1 0 4208207700 0 46 4294967250 8467301722178667302 45276041
     gets First 16777165
     ∷ posts 4 2422 0 1 2423091159 0 256 2691689437 15401086679374020940 2346069710
@@ -160,7 +161,7 @@ pub seed-779 :
     ∷ ticks 4 5343
     gets Answered Idle 0 0
     ∷ responds 55 1362611 12 256
-    gets Refused 2
+    refused refusal.State
     ∷ opens 55 6186224 16777167 2462 1 247 252 6 7 5
     gets Answered Done 0 0
     ∷ posts 55 5123 1 1 750761156 0 1023 3864314038 1489904765159993828 3586258122
@@ -222,9 +223,9 @@ pub seed-779 :
     ∷ ticks 55 89526
     gets Answered Idle 0 0
     ∷ opens 27 5885029 8388554 18010 3 1 6 6 1 12
-    gets Refused 8
+    refused refusal.Room
     ∷ posts 4 479 1 1 3629975829 0 65025 0 6828478712464135976 472916631
-    gets Refused 8
+    refused refusal.Room
     ∷ posts 4 5495 1 1 2294043771 0 204 2584958774 10287604319999780446 3352112450
     gets First 16777169
     ∷ emits 4 3

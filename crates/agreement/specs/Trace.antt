@@ -1,8 +1,9 @@
 -- The lines of a trace as calls, and what it means that the second program and the definitions agree on them.
-use Rattle.std.specs.Prelude.{◌≡◌, List, [], ◌∷◌, map, ℕ, zero, suc, ◌*◌, ◌/◌, eqb, ltb, replicate, take, drop, if◌then◌else◌}
+use Rattle.std.specs.Prelude.{◌≡◌, List, [], ◌∷◌, map, ℕ, zero, suc, ◌*◌, ◌/◌, eqb, ltb, replicate, take, drop, Result, Ok, Err, if◌then◌else◌}
+use Rattle.refusal.specs.declared.Refusal.{Refusal}
 use Rattle.wire.specs.Bytes.{number}
 use Rattle.rules.specs.declared.Reply.{Reply}
-use Rattle.rules.specs.declared.Reply.TheVariants.{Refused, Answered, First, Count}
+use Rattle.rules.specs.declared.Reply.TheVariants.{Answered, First, Count}
 use Rattle.rules.specs.Card.{small, completion_buffer}
 use Rattle.rules.specs.Ranges.{largest_budget}
 use Rattle.rules.specs.Emission.{record_bytes}
@@ -53,11 +54,11 @@ words zero bs = []
 words (suc k) bs = number (take 4 bs) ∷ words k (drop 4 bs)
 
 -- what the host reads: of an emission the records counted, of the others tickets and statuses
-abbrev read : Reply → List ℕ → List ℕ
-read (Count n) buffer = words (record_bytes / 4 * n) buffer
-read (Answered a messages place) buffer = heard (Answered a messages place) buffer
-read (Refused n) buffer = []
-read (First psn) buffer = []
+abbrev read : Result Reply Refusal → List ℕ → List ℕ
+read (Ok (Count n)) buffer = words (record_bytes / 4 * n) buffer
+read (Ok (Answered a messages place)) buffer = heard (Answered a messages place) buffer
+read (Ok (First psn)) buffer = []
+read (Err r) buffer = []
 
 -- what the definitions answer to a trace on the card, with what is read in the buffer's place
 abbrev answers : List Call → List Said
@@ -71,7 +72,11 @@ pub record Exchange : Type 0 where
 
 infixl 80 ◌gets◌
 abbrev pub ◌gets◌ : Call → Reply → Exchange
-◌gets◌ c r = record { call = c; said = record { reply = r; buffer = [] } }
+◌gets◌ c r = record { call = c; said = record { reply = Ok r; buffer = [] } }
+
+infixl 80 ◌refused◌
+abbrev pub ◌refused◌ : Call → Refusal → Exchange
+◌refused◌ c r = record { call = c; said = record { reply = Err r; buffer = [] } }
 
 infixl 80 ◌reading◌
 abbrev pub ◌reading◌ : Exchange → List ℕ → Exchange

@@ -19,41 +19,22 @@ pub spaced-none : spaced [] ≡ []
 unfolding spaced
 spaced-none = refl
 
-pub nothing_put : (o : Out) → o ≡ put_all o []
-unfolding put_all
-nothing_put o = refl
-
--- ---- the next place and the buffer, as public contracts say them
-
-pub parts : {bs : List ℕ} {k : ℕ} {o : Out} → out bs k ≡ o → (k ≡ o.at) × (bs ≡ o.bytes)
-parts e = (ap (λ (x : Out). x.at) e, ap (λ (x : Out). x.bytes) e)
-
-pub whole : {bs : List ℕ} {k : ℕ} {o : Out} → (k ≡ o.at) × (bs ≡ o.bytes) → out bs k ≡ o
-whole e = λ i. out (e.1 i) (e.0 i)
-
 -- ---- texts in a row, of which those up to i are put
 
 pub record Joining (f : ℕ → List ℕ) (n : ℕ) (o : Out) (bs : List ℕ) (to i : ℕ) : Type 0 where
   pub high : i ≤ n
-  pub long : length bs ≡ length o.bytes
   pub put : out bs to ≡ put_all o (joined f i)
 
 pub joining-start : (f : ℕ → List ℕ) (n : ℕ) (bs : List ℕ) (k : ℕ) → Joining f n (out bs k) bs k 0
 unfolding joined put_all
-joining-start f n bs k = record { high = omega arith; long = refl; put = refl }
+joining-start f n bs k = record { high = omega arith; put = refl }
 
 module _ {f : ℕ → List ℕ} {n : ℕ} {o : Out} {bs : List ℕ} {to i : ℕ} where
-  pub joining-more : {bs' : List ℕ} {to' : ℕ} → Joining f n o bs to i → i < n → length bs' ≡ length bs → out bs' to' ≡ put_all (out bs to) (f i)
+  pub joining-more : {bs' : List ℕ} {to' : ℕ} → Joining f n o bs to i → i < n → out bs' to' ≡ put_all (out bs to) (f i)
       → Joining f n o bs' to' (i + 1)
   unfolding joined
-  joining-more j h k e =
+  joining-more j h e =
       record {
         high = omega arith;
-        long = k ∙ j.long;
         put = put_then o (joined f i) (f i) j.put e ∙ rw add-one;
       }
-
-  pub joining-end : Joining f n o bs to i → n ≤ i → out bs to ≡ put_all o (joined f n)
-  joining-end j h =
-      let all : i ≡ n = omega arith in
-      j.put ∙ ap (λ (k : ℕ). put_all o (joined f k)) all

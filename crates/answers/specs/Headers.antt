@@ -1,13 +1,12 @@
 -- What `write` and `read` answer, from "Calls" of the trace protocol. Assumes nothing.
-use Rattle.std.specs.Prelude.{ℕ, suc, ◌-◌, ◌^◌, Bool, true, ◌&&◌, List, [], ◌∷◌, ◌++◌, leb, get_or, if◌then◌else◌}
+use Rattle.std.specs.Prelude.{ℕ, suc, ◌-◌, ◌^◌, Bool, true, ◌&&◌, List, [], ◌∷◌, ◌++◌, leb, get_or, Result, Ok, Err, if◌then◌else◌}
+use Rattle.refusal.specs.declared.Refusal.{Refusal}
+use Rattle.refusal.specs.Numbers.{number}
 use Rattle.text.specs.Text.{bytes}
 use Rattle.text.specs.Hex.{hex_text}
 use Rattle.wire.specs.declared.Header.{Header}
 use Rattle.wire.specs.declared.Written.{Written}
-use Rattle.wire.specs.declared.Size.{Size}
-use Rattle.wire.specs.declared.Size.TheVariants as size
 use Rattle.wire.specs.declared.Frame.{Frame}
-use Rattle.wire.specs.declared.Frame.TheVariants as frame
 use Rattle.wire.specs.Header.{write_of}
 use Rattle.answers.specs.Said.{spaced, said, refused_text}
 
@@ -40,12 +39,9 @@ header_of a =
       msn = get_or a 10 0;
     }
 
-abbrev pub size_text : Size → List ℕ → List ℕ
-size_text (size.Refused n) bs = refused_text n
-size_text (size.Length n) bs = bytes "header" ++ spaced (n ∷ []) ++ bytes " " ++ hex_text bs ++ bytes "\n"
-
-abbrev pub written_text : Written → List ℕ
-written_text w = size_text w.size w.bytes
+abbrev pub written_text : Result Written Refusal → List ℕ
+written_text (Ok w) = bytes "header" ++ spaced (w.length ∷ []) ++ bytes " " ++ hex_text w.bytes ++ bytes "\n"
+written_text (Err r) = refused_text (number r)
 
 abbrev pub write_text : List ℕ → List ℕ
 write_text a = if within 0 a widest then written_text (write_of (header_of a)) else refused_text 3
@@ -56,6 +52,6 @@ abbrev pub fields_of : Header → ℕ → ℕ → List ℕ
 fields_of h l p =
     h.opcode ∷ h.pad ∷ h.pkey ∷ h.far ∷ h.psn ∷ h.address ∷ h.key ∷ h.length ∷ h.value ∷ h.syndrome ∷ h.msn ∷ l ∷ p ∷ []
 
-abbrev pub frame_text : Frame → List ℕ
-frame_text (frame.Refused n) = refused_text n
-frame_text (frame.Read h l p) = said "frame" (fields_of h l p)
+abbrev pub frame_text : Result Frame Refusal → List ℕ
+frame_text (Ok f) = said "frame" (fields_of f.header f.length f.payload)
+frame_text (Err r) = refused_text (number r)

@@ -1,5 +1,7 @@
 -- The text of a call's answer, from "Calls" of the trace protocol. Assumes nothing.
-use Rattle.std.specs.Prelude.{ℕ, zero, suc, ◌+◌, ◌*◌, List, [], ◌∷◌, ◌++◌, get_or, take, drop}
+use Rattle.std.specs.Prelude.{ℕ, zero, suc, ◌+◌, ◌*◌, List, [], ◌∷◌, ◌++◌, get_or, take, drop, Result, Ok, Err}
+use Rattle.refusal.specs.declared.Refusal.{Refusal}
+use Rattle.refusal.specs.Numbers.{number}
 use Rattle.text.specs.declared.Ask.{Ask}
 use Rattle.text.specs.declared.Ask.TheVariants.{Nothing, Unread, Fresh, Open, Post, Emit, Ack, Response, Timer, Close, Room, Show, Free, Write, Read}
 use Rattle.text.specs.Text.{bytes}
@@ -8,7 +10,7 @@ use Rattle.text.specs.Out.{decimal}
 use Rattle.rules.specs.declared.Answer.{Answer}
 use Rattle.rules.specs.declared.Answer.TheVariants.{Dropped, Done, Resending, Held, Resumed, Idle, Ended}
 use Rattle.rules.specs.declared.Reply.{Reply}
-use Rattle.rules.specs.declared.Reply.TheVariants.{Refused, Answered, First, Count}
+use Rattle.rules.specs.declared.Reply.TheVariants.{Answered, First, Count}
 use Rattle.rules.specs.Emission.{record_bytes}
 use Rattle.answers.specs.Said.{numeral, said, refused_text}
 
@@ -71,8 +73,8 @@ abbrev pub emitted_text : List ℕ → ℕ → List ℕ
 emitted_text buffer packets = said "emitted" (packets ∷ []) ++ joined (record_line buffer) packets
 
 -- "`first F`, F the message's first PSN"; "Any refusal is `refused N`, and only that."
-abbrev pub reply_text : List ℕ → List ℕ → Ask → Reply → List ℕ
-reply_text numbers buffer what (Refused n) = refused_text n
-reply_text numbers buffer what (Answered w messages place) = answered_text numbers what w messages place
-reply_text numbers buffer what (First psn) = said "first" (psn ∷ [])
-reply_text numbers buffer what (Count packets) = emitted_text buffer packets
+abbrev pub reply_text : List ℕ → List ℕ → Ask → Result Reply Refusal → List ℕ
+reply_text numbers buffer what (Err r) = refused_text (number r)
+reply_text numbers buffer what (Ok (Answered w messages place)) = answered_text numbers what w messages place
+reply_text numbers buffer what (Ok (First psn)) = said "first" (psn ∷ [])
+reply_text numbers buffer what (Ok (Count packets)) = emitted_text buffer packets

@@ -1,67 +1,68 @@
 // What a call left in the two buffers: completions in the numbers, records in the bytes.
-ghost use Rattle.std.specs.Prelude.{◌≡◌, ◌*◌, get_or, drop};
+ghost use Rattle.std.specs.Prelude.{◌≡◌, ◌*◌, ℕ, List, get_or, take, drop};
 ghost use Rattle.text.specs.Out.{Puts};
+ghost use Rattle.rules.specs.Emission.{record_bytes};
 ghost use Rattle.answers.specs.Replied.{joined, completion, record_line};
 
 use crate::print::put_number;
-use text::{front, put, put_decimal, put_hex};
+use text::{Out, front};
+
+// A buffer, and how each of its items is written.
+pub(crate) trait Items {
+    ghost text: { Self → ℕ → List ℕ };
+
+    fn put_item(&self, out: &mut Out, i: u32)
+        ensures same { out.new.bytes.ghost_name ≡ out.old.bytes.ghost_name }
+        ensures after { Puts out.old.bytes.now out.old.at (text self.now i) out.new.bytes.now out.new.at };
+}
+
+// The first `count` items.
+pub(crate) fn put_items<T: Items>(out: &mut Out, items: &T, count: u32)
+    ensures same { out.new.bytes.ghost_name ≡ out.old.bytes.ghost_name }
+    ensures after { Puts out.old.bytes.now out.old.at (joined (T.text items.now) count) out.new.bytes.now out.new.at }
+{
+    for i in 0..count {
+        items.put_item(out, i);
+    }
+}
 
 // A number of the buffer, 0 past its end.
 fn number_at(numbers: &[u32], i: usize) -> u64
     ensures { result ≡ get_or numbers.now i 0 }
 {
-    if i < numbers.len() {
-        return numbers[i] as u64;
+    u64::from(numbers.get(i).copied().unwrap_or(0))
+}
+
+#[derive(Clone, Copy)]
+pub(crate) struct Completions<'a>(pub(crate) &'a [u32]);
+
+impl Items for Completions<'_> {
+    ghost text = { λ c. completion c.0.now };
+
+    fn put_item(&self, out: &mut Out, i: u32) {
+        let k = 2 * i as usize;
+        put_number(out, number_at(self.0, k));
+        out.put(b":");
+        out.put_decimal(number_at(self.0, k + 1));
     }
-    0
 }
 
-fn put_completion(out: &mut [u8], at: usize, numbers: &[u32], i: u32) -> usize
-    ensures { Puts out.old at (completion numbers.now i) out.new result }
+// The bytes of the i-th record, as many as the buffer has there. 48 is the `RECORD_BYTES` of walks, on which this crate does not stand.
+fn record_at(bytes: &[u8], i: u32) -> &[u8]
+    ensures { result.now ≡ take record_bytes (drop (record_bytes * i) bytes.now) }
 {
-    let k = 2 * (i as usize);
-    let a = put_number(out, at, number_at(numbers, k));
-    let b = put(out, a, b":");
-    put_decimal(out, b, number_at(numbers, k + 1))
+    front(bytes.get(48 * i as usize..).unwrap_or(&[]), 48)
 }
 
-pub(crate) fn put_completions(out: &mut [u8], at: usize, numbers: &[u32], messages: u32) -> usize
-    ensures { Puts out.old at (joined (completion numbers.now) messages) out.new result }
-{
-    let mut to = at;
-    let mut i = 0;
-    while i < messages {
-        to = put_completion(out, to, numbers, i);
-        i += 1;
+#[derive(Clone, Copy)]
+pub(crate) struct Records<'a>(pub(crate) &'a [u8]);
+
+impl Items for Records<'_> {
+    ghost text = { λ r. record_line r.0.now };
+
+    fn put_item(&self, out: &mut Out, i: u32) {
+        out.put(b"record ");
+        out.put_hex(record_at(self.0, i));
+        out.put(b"\n");
     }
-    to
-}
-
-// The bytes from `n` on, none where there are no more.
-fn rest(s: &[u8], n: usize) -> &[u8]
-    ensures { result.now ≡ drop n s.now }
-{
-    let end = s.len();
-    if n < end { &s[n..] } else { &s[end..] }
-}
-
-fn put_record(out: &mut [u8], at: usize, bytes: &[u8], i: u32) -> usize
-    ensures { Puts out.old at (record_line bytes.now i) out.new result }
-{
-    let from = 48 * (i as usize);
-    let a = put(out, at, b"record ");
-    let b = put_hex(out, a, front(rest(bytes, from), 48));
-    put(out, b, b"\n")
-}
-
-pub(crate) fn put_records(out: &mut [u8], at: usize, bytes: &[u8], packets: u32) -> usize
-    ensures { Puts out.old at (joined (record_line bytes.now) packets) out.new result }
-{
-    let mut to = at;
-    let mut i = 0;
-    while i < packets {
-        to = put_record(out, to, bytes, i);
-        i += 1;
-    }
-    to
 }

@@ -1,64 +1,64 @@
 // What `write` and `read` answer.
-ghost use Rattle.std.specs.Prelude.{◌≡◌, true, ◌≤◌, [], length, get_or};
+ghost use Rattle.std.specs.Prelude.{◌≡◌, true, ◌≤◌, [], length, get_or, Ok};
 ghost use Rattle.text.specs.Words.{words};
 ghost use Rattle.text.specs.Hex.{is_hex, octets};
 ghost use Rattle.wire.specs.Frame.{read_of};
 ghost use Rattle.text.specs.Out.{Puts};
-ghost use Rattle.answers.specs.Headers.{size_text, write_text, frame_text};
+ghost use Rattle.answers.specs.Headers.{written_text, write_text, frame_text};
 
-use crate::fields::{are_narrow, fields_of, header_of};
+use crate::fields::{fields_of, header_of};
 use crate::print::{put_line, put_numbers, put_refused};
 use refusal::Refusal;
-use text::{Filled, argument, decode, put, put_hex};
-use wire::{Frame, Size};
+use text::{Out, argument, decode};
+use wire::Written;
 
-fn put_header(out: &mut [u8], at: usize, length: u32, bytes: &[u8]) -> usize
-    ensures { Puts out.old at (size_text (Size.Length length) bytes.now) out.new result }
+fn put_header(out: &mut Out, w: Written)
+    ensures same { out.new.bytes.ghost_name ≡ out.old.bytes.ghost_name }
+    ensures after { Puts out.old.bytes.now out.old.at (written_text (Ok w)) out.new.bytes.now out.new.at }
 {
-    let a = put(out, at, b"header");
-    let b = put_numbers(out, a, &[length as u64]);
-    let c = put(out, b, b" ");
-    let d = put_hex(out, c, bytes);
-    put(out, d, b"\n")
+    out.put(b"header");
+    put_numbers(out, &[u64::from(w.length)]);
+    out.put(b" ");
+    out.put_hex(&w.bytes);
+    out.put(b"\n");
 }
 
 // A number too wide for its argument is out of its range.
-pub(crate) fn answer_write(args: &[u64; 11], out: &mut [u8], at: usize) -> usize
-    ensures { Puts out.old at (write_text args.now) out.new result }
+fn written(args: &[u64; 11]) -> Result<Written, Refusal>
+    ensures { written_text result ≡ write_text args.now }
 {
-    if !are_narrow(args) {
-        return put_refused(out, at, Refusal::RANGE);
-    }
-    let written = wire::write(header_of(args));
-    let size = written.size;
-    match size {
-        Size::Refused(n) => put_refused(out, at, n),
-        Size::Length(n) => put_header(out, at, n, &written.bytes),
+    wire::write(header_of(args).ok_or(Refusal::Range)?)
+}
+
+pub(crate) fn answer_write(out: &mut Out, args: &[u64; 11])
+    ensures same { out.new.bytes.ghost_name ≡ out.old.bytes.ghost_name }
+    ensures after { Puts out.old.bytes.now out.old.at (write_text args.now) out.new.bytes.now out.new.at }
+{
+    match written(args) {
+        Ok(w) => put_header(out, w),
+        Err(r) => put_refused(out, r),
     }
 }
 
-fn put_read(out: &mut [u8], at: usize, frame: &[u8]) -> usize
-    ensures { Puts out.old at (frame_text (read_of frame.now)) out.new result }
+fn put_read(out: &mut Out, frame: &[u8])
+    ensures same { out.new.bytes.ghost_name ≡ out.old.bytes.ghost_name }
+    ensures after { Puts out.old.bytes.now out.old.at (frame_text (read_of frame.now)) out.new.bytes.now out.new.at }
 {
     match wire::read(frame) {
-        Frame::Refused(n) => put_refused(out, at, n),
-        Frame::Read {
-            header,
-            length,
-            payload,
-        } => put_line(out, at, b"frame", &fields_of(header, length, payload)),
+        Ok(f) => put_line(out, b"frame", &fields_of(f)),
+        Err(r) => put_refused(out, r),
     }
 }
 
 // `read`: a line that is read has no HEX longer than the buffer.
-pub(crate) fn answer_read(line: &[u8], out: &mut [u8], at: usize) -> usize
+pub(crate) fn answer_read(out: &mut Out, line: &[u8])
     requires line_value { is_hex (get_or (words line.now) 1 []) ≡ true }
     requires line_len_bound { length (octets (get_or (words line.now) 1 [])) ≤ 10000 }
-    ensures { Puts out.old at (frame_text (read_of (octets (get_or (words line.now) 1 [])))) out.new result }
+    ensures same { out.new.bytes.ghost_name ≡ out.old.bytes.ghost_name }
+    ensures after { Puts out.old.bytes.now out.old.at (frame_text (read_of (octets (get_or (words line.now) 1 [])))) out.new.bytes.now out.new.at }
 {
-    let mut frame = [0u8; 10000];
-    let Filled::Bytes(n) = decode(argument(line), &mut frame) else {
-        return at;
-    };
-    put_read(out, at, &frame[..n])
+    let mut frame = [0; 10000];
+    if let Some(n) = decode(argument(line), &mut frame) {
+        put_read(out, &frame[..n]);
+    }
 }

@@ -1,5 +1,5 @@
 // The text that each answer is. No table is touched here: the program lends them to the card, and puts together what is shown of them.
-#![tactic(auto)]
+#![tactic(auto, using(text::proofs::Putting::put_then), unfolding(text::specs::Out::put_all))]
 
 mod buffers;
 mod fields;

@@ -1,41 +1,43 @@
-// Words and numbers of an answer, put into a buffer from a place on.
+// Words and numbers of an answer.
 ghost use Rattle.std.specs.Prelude.{◌≡◌};
+ghost use Rattle.refusal.specs.Numbers.{number as Numbers·number};
 ghost use Rattle.text.specs.Out.{Puts};
 ghost use Rattle.answers.specs.Said.{numeral, spaced, refused_text, line};
 
-use text::{put, put_decimal};
+use refusal::Refusal;
+use text::Out;
 
-pub(crate) fn put_number(out: &mut [u8], at: usize, number: u64) -> usize
-    ensures { Puts out.old at (numeral number) out.new result }
+pub(crate) fn put_number(out: &mut Out, number: u64)
+    ensures same { out.new.bytes.ghost_name ≡ out.old.bytes.ghost_name }
+    ensures after { Puts out.old.bytes.now out.old.at (numeral number) out.new.bytes.now out.new.at }
 {
-    let next = put(out, at, b" ");
-    put_decimal(out, next, number)
+    out.put(b" ");
+    out.put_decimal(number);
 }
 
 // Each number with a space before it.
-pub(crate) fn put_numbers(out: &mut [u8], at: usize, numbers: &[u64]) -> usize
-    ensures { Puts out.old at (spaced numbers.now) out.new result }
+pub(crate) fn put_numbers(out: &mut Out, numbers: &[u64])
+    ensures same { out.new.bytes.ghost_name ≡ out.old.bytes.ghost_name }
+    ensures after { Puts out.old.bytes.now out.old.at (spaced numbers.now) out.new.bytes.now out.new.at }
 {
-    let mut to = at;
-    let mut i = 0;
-    while i < numbers.len() {
-        to = put_number(out, to, numbers[i]);
-        i += 1;
+    for n in numbers {
+        put_number(out, *n);
     }
-    to
 }
 
 // A word and its numbers.
-pub(crate) fn put_line(out: &mut [u8], at: usize, word: &[u8], numbers: &[u64]) -> usize
-    ensures { Puts out.old at (line word.now numbers.now) out.new result }
+pub(crate) fn put_line(out: &mut Out, word: &[u8], numbers: &[u64])
+    ensures same { out.new.bytes.ghost_name ≡ out.old.bytes.ghost_name }
+    ensures after { Puts out.old.bytes.now out.old.at (line word.now numbers.now) out.new.bytes.now out.new.at }
 {
-    let a = put(out, at, word);
-    let b = put_numbers(out, a, numbers);
-    put(out, b, b"\n")
+    out.put(word);
+    put_numbers(out, numbers);
+    out.put(b"\n");
 }
 
-pub(crate) fn put_refused(out: &mut [u8], at: usize, number: u8) -> usize
-    ensures { Puts out.old at (refused_text number) out.new result }
+pub(crate) fn put_refused(out: &mut Out, refusal: Refusal)
+    ensures same { out.new.bytes.ghost_name ≡ out.old.bytes.ghost_name }
+    ensures after { Puts out.old.bytes.now out.old.at (refused_text (Numbers·number refusal)) out.new.bytes.now out.new.at }
 {
-    put_line(out, at, b"refused", &[number as u64])
+    put_line(out, b"refused", &[u64::from(refusal.number())]);
 }

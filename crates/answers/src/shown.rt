@@ -1,81 +1,84 @@
 // What `show` and `free` write of a pair and of a slot.
 ghost use Rattle.std.specs.Prelude.{◌≡◌};
-ghost use Rattle.text.specs.Out.{out as Out·out, put_all, Puts};
+ghost use Rattle.text.specs.Out.{Puts};
 ghost use Rattle.answers.specs.Said.{numeral};
 ghost use Rattle.answers.specs.Shown.{shown_numbers, state_text, standing_text, part, member_text};
 
 use crate::print::{put_number, put_numbers};
 use message::State;
 use rules::{Pair, Slot};
-use text::{put, put_decimal};
+use text::Out;
 
 fn shown_numbers(p: Pair) -> [u64; 9]
     ensures { result ≡ shown_numbers p }
 {
-    let t = p.standing;
-    let l = t.line;
-    let c = t.clock;
-    let q = p.queue;
+    let l = p.standing.line;
+    let c = p.standing.clock;
     [
-        l.u as u64,
-        l.x as u64,
-        l.h as u64,
-        l.n as u64,
-        q.held as u64,
-        c.retries as u64,
-        c.rnrs as u64,
+        u64::from(l.u),
+        u64::from(l.x),
+        u64::from(l.h),
+        u64::from(l.n),
+        u64::from(p.queue.held),
+        u64::from(c.retries),
+        u64::from(c.rnrs),
         c.elapsed,
         c.hold,
     ]
 }
 
 // A state that is none of the three is shown as closed.
-fn put_state(out: &mut [u8], at: usize, p: Pair) -> usize
-    ensures { Puts out.old at (state_text p) out.new result }
+fn put_state(out: &mut Out, p: Pair)
+    ensures same { out.new.bytes.ghost_name ≡ out.old.bytes.ghost_name }
+    ensures after { Puts out.old.bytes.now out.old.at (state_text p) out.new.bytes.now out.new.at }
 {
-    let t = p.standing;
-    if t.state == State::READY {
-        let a = put(out, at, b" ready");
-        return put_numbers(out, a, &shown_numbers(p));
+    match State::try_from(p.standing.state) {
+        Ok(State::Ready) => {
+            out.put(b" ready");
+            put_numbers(out, &shown_numbers(p));
+        }
+        Ok(State::Ended) => {
+            out.put(b" ended");
+            put_numbers(out, &shown_numbers(p));
+        }
+        _ => out.put(b" closed"),
     }
-    if t.state == State::ENDED {
-        let a = put(out, at, b" ended");
-        return put_numbers(out, a, &shown_numbers(p));
-    }
-    put(out, at, b" closed")
 }
 
 // A pair as far as its packets, with no newline.
-pub fn put_standing(out: &mut [u8], pair: u32, p: Pair, at: usize) -> usize
-    ensures { (result ≡ (put_all (Out·out out.old at) (standing_text pair p)).at) × (out.new ≡ (put_all (Out·out out.old at) (standing_text pair p)).bytes) }
+pub fn put_standing(out: &mut Out, pair: u32, p: Pair)
+    ensures same { out.new.bytes.ghost_name ≡ out.old.bytes.ghost_name }
+    ensures after { Puts out.old.bytes.now out.old.at (standing_text pair p) out.new.bytes.now out.new.at }
 {
-    let a = put(out, at, b"pair");
-    let b = put_number(out, a, pair as u64);
-    put_state(out, b, p)
+    out.put(b"pair");
+    put_number(out, u64::from(pair));
+    put_state(out, p);
 }
 
-fn put_part(out: &mut [u8], at: usize, n: u32) -> usize
-    ensures { Puts out.old at (part n) out.new result }
+fn put_part(out: &mut Out, n: u32)
+    ensures same { out.new.bytes.ghost_name ≡ out.old.bytes.ghost_name }
+    ensures after { Puts out.old.bytes.now out.old.at (part n) out.new.bytes.now out.new.at }
 {
-    let a = put(out, at, b"/");
-    put_decimal(out, a, n as u64)
+    out.put(b"/");
+    out.put_decimal(u64::from(n));
 }
 
 // A packet that a pair holds, with a space before it.
-pub fn put_member(out: &mut [u8], slot: u32, s: Slot, at: usize) -> usize
-    ensures { (result ≡ (put_all (Out·out out.old at) (member_text slot s)).at) × (out.new ≡ (put_all (Out·out out.old at) (member_text slot s)).bytes) }
+pub fn put_member(out: &mut Out, slot: u32, s: Slot)
+    ensures same { out.new.bytes.ghost_name ≡ out.old.bytes.ghost_name }
+    ensures after { Puts out.old.bytes.now out.old.at (member_text slot s) out.new.bytes.now out.new.at }
 {
-    let p = s.packet;
-    let a = put_number(out, at, slot as u64);
-    let b = put_part(out, a, p.psn);
-    let c = put_part(out, b, p.ticket);
-    let d = put_part(out, c, p.offset);
-    put_part(out, d, p.length)
+    put_number(out, u64::from(slot));
+    put_part(out, s.packet.psn);
+    put_part(out, s.packet.ticket);
+    put_part(out, s.packet.offset);
+    put_part(out, s.packet.length);
 }
 
 // A slot's number with a space before it.
-pub fn put_slot(out: &mut [u8], slot: u32, at: usize) -> usize
-    ensures { (result ≡ (put_all (Out·out out.old at) (numeral slot)).at) × (out.new ≡ (put_all (Out·out out.old at) (numeral slot)).bytes) }
+pub fn put_slot(out: &mut Out, slot: u32)
+    ensures same { out.new.bytes.ghost_name ≡ out.old.bytes.ghost_name }
+    ensures after { Puts out.old.bytes.now out.old.at (numeral slot) out.new.bytes.now out.new.at }
 {
-    put_number(out, at, slot as u64)
+    put_number(out, u64::from(slot));
 }

@@ -1,68 +1,64 @@
 -- The steps along the tables answer exactly whether the audit holds, and how many slots the open pairs claim.
-use Rattle.std.specs.Prelude.{if◌then◌else◌}
+use Rattle.std.specs.Prelude.{Option, None, Some, is_some, if◌then◌else◌}
+use Rattle.std.specs.Option.{option_map}
 use mathlib.Core.Path.{◌≡◌, refl, sym, ap, ◌∙◌}
 use mathlib.Core.Bool.{Bool, true, false}
 use mathlib.Core.Logic.{◌↔◌}
+use Prim.Native.Nat.{ℕ}
 use native.Mathlib.Omega.{arith}
 use lib.Dec.{eqb}
 use borrow.Author.Tests.{eqb-true, eq-eqb}
 use lib.ListN.{length}
 use Rattle.refusal.proofs.Cases.{by-test}
 use Rattle.rules.specs.declared.carried.Tally.{Tally}
-use Rattle.rules.specs.declared.carried.Trail.{Trail}
 use Rattle.rules.specs.Card.{small}
 use Rattle.rules.specs.Slots.{Tables, sides}
 use Rattle.rules.specs.Pool.{claimed, claims}
 use Rattle.rules.specs.Audit.{Audit}
-use Rattle.rules.specs.Passes.Links.{trail_from, trail_ends, trailed, links_pass}
-use Rattle.rules.specs.Passes.Tables.{Entry, tally_from, failed, tally_step, free_entry, pairs_tally, whole_tally, passes}
+use Rattle.rules.specs.Passes.Links.{links_pass}
+use Rattle.rules.specs.Passes.Tables.{tally_from, tallied, pairs_tally, free_step, whole_tally, passes}
 use Rattle.rules.specs.Passes.Tests.{◌and◌}
 use Rattle.rules.proofs.Passes.Tests.{both, joined}
 use Rattle.rules.proofs.Passes.Bits.{none-room}
-use Rattle.rules.proofs.Passes.Tally.{counted, step_ok}
-use Rattle.rules.proofs.Passes.Decided.{entries, asked-all, whole_is, decided}
+use Rattle.rules.proofs.Passes.Tally.{counted}
+use Rattle.rules.proofs.Passes.Decided.{there, entries, asked-all, start, whole_is, decided}
 use Rattle.audit.specs.Loops.{trace, audit_pairs, audited}
-use Rattle.audit.specs.Steps.{begin_audit, free_queue, open_free, join_free}
+use Rattle.audit.specs.Steps.{begin_audit, open_free, join_free}
 use Rattle.audit.specs.declared.Auditing.{Auditing}
-use Rattle.audit.specs.declared.Audited.{Audited}
 use Rattle.audit.proofs.Walks.{traced, trace-is}
-use Rattle.audit.proofs.Pairs.{lost, pairs-done, pairs_is}
+use Rattle.audit.proofs.Pairs.{pairs-done, pairs_is}
 
 -- what is said of a tally
-abbrev answer : Tally → Audited
-answer w = record { ok = w.ok; claimed = w.claimed }
+abbrev answer : Option Tally → Option ℕ
+answer w = option_map (λ x. x.claimed) w
+
+answers : (w : Option Tally) → is_some (answer w) ≡ is_some w
+answers None = refl
+answers (Some x) = refl
 
 -- before the first pair, by the tables' lengths
 abbrev full : Auditing
 full = record { left = small.pairs; tally = tally_from small.slots }
 
 abbrev empty : Auditing
-empty = record { left = 0; tally = failed small.slots }
+empty = record { left = 0; tally = None }
 
 module _ (t : Tables) where
-  abbrev finished : Auditing → Audited
+  abbrev finished : Auditing → Option ℕ
   finished v = join_free v t.ends (trace t.slots (open_free v t.ends))
 
-  abbrev free_by : Auditing → Trail → Entry
-  free_by v w = record { passed = trail_ends small.none (free_queue v t.ends) w; queue = free_queue v t.ends; claim = 0 }
-
   -- the free queue's turn is the definition's
-  free-is : length t.slots ≡ small.slots → (v : Auditing) → finished v ≡ answer (tally_step small.slots v.tally (free_entry small t v.tally))
+  free-is : length t.slots ≡ small.slots → (v : Auditing) → finished v ≡ answer (free_step small t v.tally)
   unfolding links_pass
-  free-is size v =
-      ap (join_free v t.ends) (trace-is t.slots size (open_free v t.ends))
-      ∙ by-test v.tally.ok
-      (λ e.
-      let q = free_queue v t.ends in
-      ap (λ (b : Bool). join_free v t.ends (record { left = 0; trail = trailed t.slots (trail_from small.none q) (if b then q.held else 0) })) e)
-      (λ e.
-      ap answer
-      (lost small.slots v.tally (free_by v (traced t.slots size (open_free v t.ends)).trail) e
-      ∙ sym (lost small.slots v.tally (free_entry small t v.tally) e)))
+  free-is size v = ap (join_free v t.ends) (trace-is t.slots size (open_free v t.ends)) ∙ go v.tally
+    where
+      go : (w : Option Tally) → join_free (record { left = v.left; tally = w }) t.ends (traced t.slots size (open_free (record { left = v.left; tally = w }) t.ends)) ≡ answer (free_step small t w)
+      go None = refl
+      go (Some w) = refl
 
   whole : length t.pairs ≡ small.pairs → length t.slots ≡ small.slots → audited t ≡ answer (whole_tally small t)
   unfolding audited
-  whole np ns = free-is ns run ∙ ap (λ (w : Tally). answer (tally_step small.slots w (free_entry small t w))) tally
+  whole np ns = free-is ns run ∙ ap (λ (w : Option Tally). answer (free_step small t w)) tally
     where
       run : Auditing
       run = audit_pairs t.pairs t.slots (begin_audit (length t.pairs) (length t.slots))
@@ -74,45 +70,45 @@ module _ (t : Tables) where
           ∙ pairs_is t.pairs t.slots np ns full (omega arith)
 
   -- other lengths: no record is looked at
-  misfit : (eqb (length t.pairs) small.pairs and eqb (length t.slots) small.slots) ≡ false → (audited t).ok ≡ false
+  misfit : (eqb (length t.pairs) small.pairs and eqb (length t.slots) small.slots) ≡ false → is_some (audited t) ≡ false
   unfolding audited
   misfit e =
-      ap (λ (b : Bool). (finished (audit_pairs t.pairs t.slots (if b then full else empty))).ok) e
-      ∙ ap (λ (v : Auditing). (finished v).ok) (pairs-done t.pairs t.slots empty refl)
-      ∙ ap (λ (w : Tally). w.ok) (lost small.slots (failed small.slots) (free_by empty (trace t.slots (open_free empty t.ends)).trail) refl)
+      ap (λ (b : Bool). is_some (finished (audit_pairs t.pairs t.slots (if b then full else empty)))) e
+      ∙ ap (λ (v : Auditing). is_some (finished v)) (pairs-done t.pairs t.slots empty refl)
 
   sized : passes small t ≡ true → (length t.pairs ≡ small.pairs) × (length t.slots ≡ small.slots)
   unfolding passes
   sized e = (eqb-true (length t.pairs) small.pairs (both e).0, eqb-true (length t.slots) small.slots (both (both e).1).0)
 
   -- "The audit passes exactly if"
-  pub audited-is : (audited t).ok ≡ passes small t
+  pub audited-is : is_some (audited t) ≡ passes small t
   unfolding passes ◌and◌
   audited-is =
       let np = length t.pairs in
       let ns = length t.slots in
-      let ok = (whole_tally small t).ok in
+      let ok = is_some (whole_tally small t) in
       by-test (eqb np small.pairs)
       (λ a.
       by-test (eqb ns small.slots)
       (λ b.
-      ap (λ (x : Audited). x.ok) (whole (eqb-true np small.pairs a) (eqb-true ns small.slots b)) ∙ (λ j. sym a j and sym b j and ok))
+      ap is_some (whole (eqb-true np small.pairs a) (eqb-true ns small.slots b)) ∙ answers (whole_tally small t) ∙ (λ j. sym a j and sym b j and ok))
       (λ b. misfit (λ j. a j and b j) ∙ (λ j. sym a j and sym b j and ok)))
       (λ a. misfit (λ j. a j and eqb ns small.slots) ∙ (λ j. sym a j and eqb ns small.slots and ok))
 
-  pub decided-by-code : (audited t).ok ≡ true ↔ Audit small t
+  pub decided-by-code : is_some (audited t) ≡ true ↔ Audit small t
   decided-by-code = (λ e. (decided small t).0 (sym audited-is ∙ e), λ a. audited-is ∙ (decided small t).1 a)
 
-  pub claimed-is : (audited t).ok ≡ true → (audited t).claimed ≡ claimed (claims (sides t))
+  pub claimed-is : is_some (audited t) ≡ true → audited t ≡ Some (claimed (claims (sides t)))
   unfolding passes
   claimed-is e =
       let p = sym audited-is ∙ e in
       let n = sized p in
       let ok = (both (both p).1).1 in
-      let first = step_ok small.slots (pairs_tally small t) (free_entry small t (pairs_tally small t)) ok in
-      let all = whole_is small t n.1 first in
-      ap (λ (x : Audited). x.claimed) (whole n.0 n.1)
-      ∙ ap (λ (x : Tally). x.claimed) all
-      ∙ (counted small.slots (tally_from small.slots) (entries small t) refl (none-room small.slots) (ap (λ (x : Tally). x.ok) (sym all) ∙ ok)).claimed
+      let all = whole_is small t n.1 in
+      let end = there (tallied small.slots (tally_from small.slots) (entries small t)) (ap is_some (sym all) ∙ ok) in
+      whole n.0 n.1
+      ∙ ap answer (all ∙ end.1)
+      ∙ ap Some
+      ((counted small.slots (start small t) end.0 (entries small t) (none-room small.slots) end.1).claimed
       ∙ omega arith
-      ∙ asked-all small t
+      ∙ asked-all small t)

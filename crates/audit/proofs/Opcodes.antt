@@ -1,28 +1,23 @@
 -- What lets the code look at an opcode first: the opcode tells which of a message's tests can pass at all.
+use Rattle.std.specs.Option.{option_and_then}
+use Rattle.std.specs.Prelude.{Some}
 use mathlib.Core.Path.{◌≡◌, refl, sym, ap, ◌∙◌}
-use mathlib.Core.Bool.{Bool, false}
-use Prim.Native.Nat.{ℕ, ◌+◌, ◌-◌, ◌*◌, ◌%◌, ◌<◌}
+use mathlib.Core.Bool.{false}
+use Prim.Native.Nat.{ℕ, ◌+◌, ◌*◌, ◌%◌, ◌<◌}
 use native.Mathlib.Omega.{arith}
 use lib.Dec.{leb, eqb}
 use borrow.Author.Tests.{eq-eqb, eqb-true}
 use Rattle.refusal.proofs.Cases.{by-test}
-use Rattle.psn.specs.Psn.{plus}
 use Rattle.rules.specs.declared.Packet.{Packet}
-use Rattle.rules.specs.declared.Post.{Post}
 use Rattle.rules.specs.declared.Settings.{Settings}
 use Rattle.rules.specs.declared.carried.Begun.{Begun}
 use Rattle.rules.specs.declared.carried.Stage.{Stage}
-use Rattle.rules.specs.declared.carried.Stage.TheVariants.{Start, Between, Inside, Lost}
-use Rattle.rules.specs.Message.{pmtu, packets_for, read_request, made, opcode_at, length_at, packet_at}
+use Rattle.rules.specs.declared.carried.Stage.TheVariants.{Start, Between, Inside}
+use Rattle.rules.specs.Message.{pmtu, packets_for, read_request, made, opcode_at, packet_at}
 use Rattle.rules.specs.Passes.Stage.{same, alone, single, middle, goes_on, is_rear, stage_step}
 use Rattle.rules.specs.Passes.Tests.{◌and◌}
 use Rattle.rules.proofs.Passes.Tests.{both, same_true}
 use Rattle.audit.specs.Stages.{lead, resume}
-
--- a test that fails, among others
-pub shut : (a b c : Bool) → b ≡ false → false ≡ (a and b and c)
-unfolding ◌and◌
-shut a b c e = by-test a (λ t. rw (t, e)) (λ t. rw t)
 
 -- ---- a message of one record
 
@@ -40,24 +35,6 @@ request-is p e =
       eq-eqb p.address p.address refl,
       eq-eqb p.key p.key refl,
     ) refl
-
--- the first place of one packet is the whole post
-first-place : (s : Settings) (m : Post) (first n : ℕ) → n ≡ 1
-    → made (opcode_at m 1 0) m (plus first 0) m.offset m.length
-    ≡ made (opcode_at m n 0) m (plus first 0) (m.offset + 0 * pmtu s) (length_at (pmtu s) m.length n 0)
-first-place s m first n e =
-    let at : m.offset ≡ m.offset + 0 * pmtu s = omega arith in
-    let rest : m.length ≡ m.length - 0 * pmtu s = omega arith in
-    let size : m.length ≡ length_at (pmtu s) m.length n 0 = rest ∙ ap (λ (k : ℕ). length_at (pmtu s) m.length k 0) (sym e) in
-    λ j. made (opcode_at m (sym e j) 0) m (plus first 0) (at j) (size j)
-
-pub only-is : (s : Settings) (p : Packet) (m : Post) → packets_for (pmtu s) m.length ≡ 1
-    → (leb p.opcode 11 and same p (made (opcode_at m 1 0) m (plus p.psn 0) m.offset m.length))
-    ≡ (leb p.opcode 11 and eqb (packets_for (pmtu s) m.length) 1 and same p (packet_at s m p.psn 0))
-unfolding ◌and◌
-only-is s p m e =
-    ap (λ (q : Packet). leb p.opcode 11 and same p q) (first-place s m p.psn (packets_for (pmtu s) m.length) e)
-    ∙ ap (λ (b : Bool). leb p.opcode 11 and b and same p (packet_at s m p.psn 0)) (sym (eq-eqb (packets_for (pmtu s) m.length) 1 e))
 
 -- a First, Middle or Last is no message by itself
 pub no-single : (s : Settings) (p : Packet) → eqb p.opcode 12 ≡ false → p.opcode % 6 < 4 → false ≡ single s p
@@ -85,11 +62,10 @@ no_middle s w p h =
 -- ---- all messages
 
 -- where a record stands, and what it makes of that, are the one step
-pub stage_is : (s : Settings) (w : Stage) (p : Packet) → resume s (lead s w p) p ≡ stage_step s w p
+pub stage_is : (s : Settings) (w : Stage) (p : Packet) → option_and_then (λ x. resume s x p) (lead s w p) ≡ stage_step s (Some w) p
 stage_is s Start p =
     by-test (is_rear p)
     (λ t. by-test (leb (pmtu s) p.offset) (λ u. rw (t, u) refl) (λ u. rw (t, u) refl))
     (λ t. rw t refl)
 stage_is s Between p = refl
 stage_is s (Inside w) p = refl
-stage_is s Lost p = refl

@@ -38,7 +38,7 @@ module _ (s : List Slot) where
 module _ (s : List Slot) (size : length s ≡ small.slots) where
   -- a pair's queue, all that is left of it
   abbrev pub followed : Following → Following
-  followed w = record { left = 0; passed = w.passed; standing = w.standing; walk = walked (tidy w.standing) s w.walk w.left }
+  followed w = record { left = 0; standing = w.standing; walk = walked (tidy w.standing) s w.walk w.left }
 
   pub follow-is : (w : Following) → follow s w ≡ followed w
   follow-is w = go w.left w refl
@@ -46,14 +46,14 @@ module _ (s : List Slot) (size : length s ≡ small.slots) where
       go : (n : ℕ) (w : Following) → w.left ≡ n → follow s w ≡ followed w
       go zero w e =
           follow-done s w e
-          ∙ (λ j. record { left = e j; passed = w.passed; standing = w.standing; walk = walked (tidy w.standing) s w.walk (sym e j) })
+          ∙ (λ j. record { left = e j; standing = w.standing; walk = walked (tidy w.standing) s w.walk (sym e j) })
       go (suc n) w e =
           let some : 0 < w.left = omega (arith, e) in
           let t = tidy w.standing in
           let one = turn small.slots t s size w.walk (follow_turn s w).walk (slot_at s w.walk.trail.at) w.left (walked t s w.walk w.left) some refl refl refl in
           follow-more s w some
           ∙ go n (follow_turn s w) (omega (arith, e))
-          ∙ (λ j. record { left = 0; passed = w.passed; standing = w.standing; walk = one j })
+          ∙ (λ j. record { left = 0; standing = w.standing; walk = one j })
 
   -- the free queue
   abbrev pub traced : Tracing → Tracing

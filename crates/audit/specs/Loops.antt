@@ -1,5 +1,6 @@
 -- The steps along the tables: what the loops of a card come to. `audited-is` says that this is the audit's answer.
-use Rattle.std.specs.Prelude.{List, length}
+use Rattle.std.specs.Prelude.{List, length, Option, ℕ}
+use Rattle.std.specs.Option.{option_map}
 use Rattle.rules.specs.declared.Pair.{Pair}
 use Rattle.rules.specs.declared.Slot.{Slot}
 use Rattle.rules.specs.Slots.{Tables, slot_at, pair_at}
@@ -8,7 +9,6 @@ use Rattle.audit.specs.Steps.{begin_audit, next_pair, open_queue, follow_step, j
 use Rattle.audit.specs.declared.Following.{Following}
 use Rattle.audit.specs.declared.Tracing.{Tracing}
 use Rattle.audit.specs.declared.Auditing.{Auditing}
-use Rattle.audit.specs.declared.Audited.{Audited}
 
 -- one queue, slot by slot
 abbrev pub follow_turn : List Slot → Following → Following
@@ -28,13 +28,13 @@ trace s w = loop (λ (x : Tracing). x.left) (trace_turn s) w
 abbrev pub audit_turn : List Pair → List Slot → Auditing → Auditing
 audit_turn ps s v =
     let p = pair_at ps (next_pair v) in
-    join_queue v p (follow s (open_queue v p))
+    join_queue v p (option_map (follow s) (open_queue v p))
 
 abbrev pub audit_pairs : List Pair → List Slot → Auditing → Auditing
 audit_pairs ps s v = loop (λ (x : Auditing). x.left) (audit_turn ps s) v
 
--- the whole audit
-unfoldable pub audited : Tables → Audited
+-- the whole audit: how many slots the open pairs claim, or none where it does not pass
+unfoldable pub audited : Tables → Option ℕ
 audited t =
     let v = audit_pairs t.pairs t.slots (begin_audit (length t.pairs) (length t.slots)) in
     join_free v t.ends (trace t.slots (open_free v t.ends))

@@ -3,7 +3,7 @@ ghost use Rattle.std.specs.Prelude.{◌≡◌};
 ghost use Rattle.rules.specs.Card.{small};
 ghost use Rattle.rules.specs.Passes.Links.{trail_from, trail_step, trail_ends};
 
-use message::{Card, both};
+use message::Card;
 use rules::carried::Trail;
 use rules::{Queue, Slot};
 
@@ -20,17 +20,15 @@ pub(crate) fn trail_from(q: Queue) -> Trail
 pub(crate) fn trail_step(w: Trail, i: Slot) -> Trail
     ensures { result ≡ trail_step small.slots w i }
 {
-    let ok = both(w.ok, w.at < Card::SLOTS);
     Trail {
         at: i.link,
         last: w.at,
-        ok,
+        ok: w.ok && w.at < Card::SLOTS,
     }
 }
 
 pub(crate) fn trail_ends(q: Queue, w: Trail) -> bool
     ensures { result ≡ trail_ends small.none q w }
 {
-    let end = both(w.at == Card::NONE, w.last == q.last);
-    both(w.ok, end)
+    w.ok && w.at == Card::NONE && w.last == q.last
 }

@@ -1,55 +1,33 @@
 // The order of a ready pair's packets: each starts where the one before ended, by its distance from U.
-ghost use Rattle.std.specs.Prelude.{◌≡◌, ◌+◌, ◌-◌, leb, if◌then◌else◌};
+ghost use Rattle.std.specs.Prelude.{◌≡◌, ◌+◌, ◌-◌, leb, None, Some, if◌then◌else◌};
 ghost use Rattle.psn.specs.Psn.{distance};
 ghost use Rattle.rules.specs.Message.{span};
-ghost use Rattle.rules.specs.Passes.Course.{course_from, astray, onward, first_fits, next_fits, course_step, stands, line_fits, course_ends};
+ghost use Rattle.rules.specs.Passes.Course.{course_from, onward, first_fits, next_fits, course_step, stands, line_fits, course_ends};
 ghost use Rattle.message.specs.Capped.{capped};
 
-use message::{both, either, span};
+use message::span;
 use psn::Psn;
 use rules::carried::Course;
 use rules::{Line, Packet, Settings};
 
-pub(crate) fn course_from() -> Course
+pub(crate) fn course_from() -> Option<Course>
     ensures { result ≡ course_from }
 {
-    Course {
+    Some(Course {
         place: 0,
         x: false,
         h: false,
-        ok: true,
-    }
-}
-
-fn astray() -> Course
-    ensures { result ≡ astray }
-{
-    Course {
-        place: 0,
-        x: false,
-        h: false,
-        ok: false,
-    }
+    })
 }
 
 fn onward(l: Line, place: u64, w: Course, p: Packet) -> Course
     ensures { result ≡ onward l place w p }
 {
-    let x = either(w.x, l.x == p.psn);
-    let h = either(w.h, l.h == p.psn);
     Course {
         place,
-        x,
-        h,
-        ok: true,
+        x: w.x || l.x == p.psn,
+        h: w.h || l.h == p.psn,
     }
-}
-
-// What is left of a record is no more than what is open.
-fn fits_in(all: u32, gone: u32, wide: u32) -> bool
-    ensures { result ≡ leb (all - gone) wide }
-{
-    all as u64 <= wide as u64 + gone as u64
 }
 
 fn first_fits(s: Settings, l: Line, p: Packet) -> bool
@@ -57,58 +35,51 @@ fn first_fits(s: Settings, l: Line, p: Packet) -> bool
 {
     let gone = Psn::distance(p.psn, l.u);
     let all = span(s, p);
-    let wide = Psn::distance(l.u, l.h);
-    let inside = fits_in(all, gone, wide);
-    let mut ok = either(gone == 0, inside);
-    ok = both(gone < all, ok);
-    both(p.psn < Psn::COUNT, ok)
+    p.psn < Psn::COUNT && gone < all && (gone == 0 || all - gone <= Psn::distance(l.u, l.h))
 }
 
 fn next_fits(l: Line, w: Course, p: Packet) -> bool
     ensures { result ≡ next_fits l w p }
 {
-    let place = Psn::distance(l.u, p.psn);
-    both(p.psn < Psn::COUNT, place as u64 == w.place)
+    p.psn < Psn::COUNT && u64::from(Psn::distance(l.u, p.psn)) == w.place
 }
 
-fn first_step(s: Settings, l: Line, w: Course, p: Packet) -> Course
-    ensures { result ≡ (if first_fits (capped s) l p then onward l (span (capped s) p - distance p.psn l.u) w p else astray) }
+fn first_step(s: Settings, l: Line, w: Course, p: Packet) -> Option<Course>
+    ensures { result ≡ (if first_fits (capped s) l p then Some (onward l (span (capped s) p - distance p.psn l.u) w p) else None) }
 {
     if first_fits(s, l, p) {
-        let gone = Psn::distance(p.psn, l.u);
-        let all = span(s, p);
-        return onward(l, all as u64 - gone as u64, w, p);
+        let left = span(s, p) - Psn::distance(p.psn, l.u);
+        Some(onward(l, u64::from(left), w, p))
+    } else {
+        None
     }
-    astray()
 }
 
-fn next_step(s: Settings, l: Line, w: Course, p: Packet) -> Course
-    ensures { result ≡ (if next_fits l w p then onward l (w.place + span (capped s) p) w p else astray) }
+fn next_step(s: Settings, l: Line, w: Course, p: Packet) -> Option<Course>
+    ensures { result ≡ (if next_fits l w p then Some (onward l (w.place + span (capped s) p) w p) else None) }
 {
     if next_fits(l, w, p) {
-        let all = span(s, p);
-        return onward(l, w.place + all as u64, w, p);
+        Some(onward(l, w.place + u64::from(span(s, p)), w, p))
+    } else {
+        None
     }
-    astray()
 }
 
-pub(crate) fn course_step(s: Settings, l: Line, w: Course, p: Packet) -> Course
+pub(crate) fn course_step(s: Settings, l: Line, w: Option<Course>, p: Packet) -> Option<Course>
     ensures { result ≡ course_step (capped s) l w p }
 {
-    if !w.ok {
-        return astray();
-    }
+    let w = w?;
     if w.place == 0 {
-        return first_step(s, l, w, p);
+        first_step(s, l, w, p)
+    } else {
+        next_step(s, l, w, p)
     }
-    next_step(s, l, w, p)
 }
 
 fn stands(l: Line, a: u32, start: bool) -> bool
     ensures { result ≡ stands l a start }
 {
-    let end = either(a == l.u, a == l.n);
-    either(end, start)
+    a == l.u || a == l.n || start
 }
 
 pub(crate) fn line_fits(l: Line) -> bool
@@ -117,21 +88,19 @@ pub(crate) fn line_fits(l: Line) -> bool
     let x = Psn::distance(l.u, l.x);
     let h = Psn::distance(l.u, l.h);
     let n = Psn::distance(l.u, l.n);
-    let mut ok = both(h <= n, n <= Psn::HALF);
-    ok = both(x <= h, ok);
-    ok = both(l.n < Psn::COUNT, ok);
-    ok = both(l.h < Psn::COUNT, ok);
-    ok = both(l.x < Psn::COUNT, ok);
-    both(l.u < Psn::COUNT, ok)
+    l.u < Psn::COUNT
+        && l.x < Psn::COUNT
+        && l.h < Psn::COUNT
+        && l.n < Psn::COUNT
+        && x <= h
+        && h <= n
+        && n <= Psn::HALF
 }
 
-pub(crate) fn course_ends(l: Line, w: Course) -> bool
+pub(crate) fn course_ends(l: Line, w: Option<Course>) -> bool
     ensures { result ≡ course_ends l w }
 {
-    let n = Psn::distance(l.u, l.n);
-    let x = stands(l, l.x, w.x);
-    let h = stands(l, l.h, w.h);
-    let mut ok = both(x, h);
-    ok = both(w.place == n as u64, ok);
-    both(w.ok, ok)
+    w.is_some_and(|w| {
+        w.place == u64::from(Psn::distance(l.u, l.n)) && stands(l, l.x, w.x) && stands(l, l.h, w.h)
+    })
 }

@@ -5,7 +5,7 @@ ghost use Rattle.rules.specs.Ranges.{bad_settings};
 ghost use Rattle.rules.specs.Passes.Record.{bound_tests, timed_tests, record_passes};
 ghost use Rattle.rules.specs.Passes.Tests.{all_of};
 
-use message::{State, bad_settings, both, either, timeout};
+use message::{State, bad_settings, timeout};
 use psn::Psn;
 use rules::Standing;
 
@@ -15,18 +15,14 @@ const LONGEST_HOLD: u64 = 655_360_000;
 fn is_bounded(t: Standing, held: u32) -> bool
     ensures { result ≡ all_of (bound_tests small t held) }
 {
-    let s = t.settings;
-    let l = t.line;
-    let c = t.clock;
-    let bad = bad_settings(s);
-    let mut ok = both(held <= s.ceiling, true);
-    ok = both(c.rnrs <= s.rnr, ok);
-    ok = both(c.retries <= s.retry, ok);
-    ok = both(l.n < Psn::COUNT, ok);
-    ok = both(l.h < Psn::COUNT, ok);
-    ok = both(l.x < Psn::COUNT, ok);
-    ok = both(l.u < Psn::COUNT, ok);
-    both(!bad, ok)
+    !bad_settings(t.settings)
+        && t.line.u < Psn::COUNT
+        && t.line.x < Psn::COUNT
+        && t.line.h < Psn::COUNT
+        && t.line.n < Psn::COUNT
+        && t.clock.retries <= t.settings.retry
+        && t.clock.rnrs <= t.settings.rnr
+        && held <= t.settings.ceiling
 }
 
 // A ready pair, its timeout code in range.
@@ -34,36 +30,23 @@ fn is_timed(t: Standing) -> bool
     requires { bad_settings small t.settings ≡ false }
     ensures { result ≡ all_of (timed_tests t) }
 {
-    let s = t.settings;
-    let l = t.line;
-    let c = t.clock;
-    let most = timeout(s);
-    let still = c.elapsed == 0;
-    let untimed = s.timeout == 0;
-    let empty = l.u == l.h;
-    let by_code = either(!untimed, still);
-    let by_hold = either(c.hold == 0, still);
-    let by_line = either(!empty, still);
-    let mut ok = both(by_code, true);
-    ok = both(by_hold, ok);
-    ok = both(by_line, ok);
-    ok = both(c.elapsed < most, ok);
-    both(c.hold <= LONGEST_HOLD, ok)
+    let most = timeout(t.settings);
+    let still = t.clock.elapsed == 0;
+    t.clock.hold <= LONGEST_HOLD
+        && t.clock.elapsed < most
+        && (t.line.u != t.line.h || still)
+        && (t.clock.hold == 0 || still)
+        && (t.settings.timeout != 0 || still)
 }
 
+#[tactic(auto, using(crate::proofs::Both::both), unfolding(rules::specs::Passes::Record::record_passes))]
 pub(crate) fn record_passes(t: Standing, held: u32) -> bool
     ensures { result ≡ record_passes small t held }
 {
-    if t.state == State::CLOSED {
-        return held == 0;
+    match State::try_from(t.state) {
+        Ok(State::Closed) => held == 0,
+        Ok(State::Ready) => is_bounded(t, held) && is_timed(t),
+        Ok(State::Ended) => is_bounded(t, held) && held == 0,
+        Err(_) => false,
     }
-    let fair = is_bounded(t, held);
-    if t.state != State::READY {
-        let ok = both(fair, held == 0);
-        return both(t.state <= State::ENDED, ok);
-    }
-    if fair {
-        return is_timed(t);
-    }
-    false
 }

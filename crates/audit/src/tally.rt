@@ -1,183 +1,102 @@
-// All queues: which slots were a queue's last, how many slots are held and claimed, and whether all passed.
-ghost use Rattle.std.specs.Prelude.{◌≡◌, false, ◌+◌, ◌/◌, ◌%◌, ◌^◌, ◌≤◌, ◌<◌, max, leb, get_or, set, if◌then◌else◌};
+// All queues, while each passes: which slots were a queue's last, and how many slots are held and claimed.
+ghost use Rattle.std.specs.Prelude.{◌≡◌, true, false, None, Some, ◌+◌, ◌/◌, ◌%◌, ◌^◌, ◌≤◌, ◌<◌, max, leb, get_or, set, if◌then◌else◌};
 ghost use Rattle.rules.specs.Card.{small};
-ghost use Rattle.rules.specs.Passes.Tables.{has, put, claim_by, add_queue, failed, is_new, tally_from, tally_fits, tally_step};
+ghost use Rattle.rules.specs.Passes.Tables.{has, put, claim_by, add_queue, is_new, tally_from, tally_fits, tally_step};
 ghost use Rattle.rules.specs.Passes.Tests.{◌and◌};
 
-use message::{Card, State, both};
+use message::{Card, State};
 use rules::carried::Tally;
 use rules::{Pair, Queue};
 
 // ---- a set of slot numbers
 
-// A word by tests on its place: a place that is a number in the code keeps the words out of memory.
-fn word_at(words: [u64; 4], at: usize) -> u64
-    requires { at < 4 }
-    ensures { result ≡ get_or words at 0 }
-{
-    if at == 0 {
-        return words[0];
-    }
-    if at == 1 {
-        return words[1];
-    }
-    if at == 2 {
-        return words[2];
-    }
-    words[3]
-}
-
-fn with_word(words: [u64; 4], at: usize, word: u64) -> [u64; 4]
-    requires { at < 4 }
-    ensures { result ≡ set words at word }
-{
-    let mut all = words;
-    if at == 0 {
-        all[0] = word;
-        return all;
-    }
-    if at == 1 {
-        all[1] = word;
-        return all;
-    }
-    if at == 2 {
-        all[2] = word;
-        return all;
-    }
-    all[3] = word;
-    all
-}
-
+#[tactic(auto, unfolding(rules::specs::Passes::Tables::has))]
 fn has_bit(words: [u64; 4], i: u32) -> bool
     requires { i < 256 }
     ensures { result ≡ has words i }
 {
-    let word = word_at(words, (i / 64) as usize);
-    (word >> (i % 64)) % 2 == 1
+    (words[(i / 64) as usize] >> (i % 64)) % 2 == 1
 }
 
-fn with_bit(word: u64, b: u32) -> u64
-    requires { (b < 64) × (word / 2 ^ b % 2 ≡ 0) }
-    ensures { result ≡ word + 2 ^ b }
-{
-    word + (1 << b)
-}
-
-fn put_bit(words: [u64; 4], i: u32) -> [u64; 4]
+fn put_bit(mut words: [u64; 4], i: u32) -> [u64; 4]
     requires { (i < 256) × (has words i ≡ false) }
     ensures { result ≡ put words i }
 {
-    let at = (i / 64) as usize;
-    let word = word_at(words, at);
-    let more = with_bit(word, i % 64);
-    with_word(words, at, more)
+    words[(i / 64) as usize] += 1 << (i % 64);
+    words
 }
 
 fn is_new(words: [u64; 4], q: Queue) -> bool
     ensures { result ≡ is_new small.slots words q }
 {
-    let last = q.last;
-    if last < Card::SLOTS {
-        return !has_bit(words, last);
-    }
-    false
+    q.last < Card::SLOTS && !has_bit(words, q.last)
 }
 
 // ---- the tally
 
-pub(crate) fn tally_from() -> Tally
+#[tactic(auto, unfolding(rules::specs::Passes::Tables::none_of))]
+pub(crate) fn tally_from() -> Option<Tally>
     ensures { result ≡ tally_from small.slots }
 {
-    Tally {
-        words: [0, 0, 0, 0],
+    Some(Tally {
+        words: [0; 4],
         held: 0,
         claimed: 0,
-        ok: true,
-    }
-}
-
-pub(crate) fn has_failed() -> Tally
-    ensures { result ≡ failed small.slots }
-{
-    Tally {
-        words: [0, 0, 0, 0],
-        held: 0,
-        claimed: 0,
-        ok: false,
-    }
+    })
 }
 
 // What a queue holds and its pair claims fits in beside those before.
 pub(crate) fn has_room(t: Tally, held: u32, claim: u32) -> bool
     ensures { result ≡ (leb (t.held + held) small.slots and leb (t.claimed + claim) small.slots) }
 {
-    let slots = Card::SLOTS as u64;
-    let all = t.held as u64 + held as u64;
-    let asked = t.claimed as u64 + claim as u64;
-    both(all <= slots, asked <= slots)
-}
-
-fn larger(a: u32, b: u32) -> u32
-    ensures { result ≡ max a b }
-{
-    if a <= b {
-        return b;
-    }
-    a
+    let slots = u64::from(Card::SLOTS);
+    u64::from(t.held) + u64::from(held) <= slots && u64::from(t.claimed) + u64::from(claim) <= slots
 }
 
 pub(crate) fn claim_by(p: Pair) -> u32
     ensures { result ≡ claim_by p }
 {
-    let t = p.standing;
-    let q = p.queue;
-    if t.state == State::CLOSED {
-        return 0;
+    if p.standing.state == State::Closed as u32 {
+        0
+    } else {
+        p.standing.settings.share.max(p.queue.held)
     }
-    let s = t.settings;
-    larger(s.share, q.held)
 }
 
 // A queue that holds something.
-fn add_queue(t: Tally, passed: bool, q: Queue, claim: u32) -> Tally
+fn add_queue(t: Tally, q: Queue, claim: u32) -> Option<Tally>
     requires { (t.held + q.held ≤ 256) × (t.claimed + claim ≤ 256) }
-    ensures { result ≡ (if is_new small.slots t.words q then add_queue t (record { passed = passed; queue = q; claim = claim }) else failed small.slots) }
+    ensures { result ≡ (if is_new small.slots t.words q then Some (add_queue t (record { passed = true; queue = q; claim = claim })) else None) }
 {
-    let seen = t.words;
-    if is_new(seen, q) {
-        let words = put_bit(seen, q.last);
-        return Tally {
-            words,
+    if is_new(t.words, q) {
+        Some(Tally {
+            words: put_bit(t.words, q.last),
             held: t.held + q.held,
             claimed: t.claimed + claim,
-            ok: true,
-        };
+        })
+    } else {
+        None
     }
-    has_failed()
 }
 
 fn tally_fits(t: Tally, passed: bool, q: Queue, claim: u32) -> bool
     ensures { result ≡ tally_fits small.slots t (record { passed = passed; queue = q; claim = claim }) }
 {
-    let room = has_room(t, q.held, claim);
-    let good = both(passed, room);
-    both(t.ok, good)
+    passed && has_room(t, q.held, claim)
 }
 
-pub(crate) fn tally_step(t: Tally, passed: bool, q: Queue, claim: u32) -> Tally
+pub(crate) fn tally_step(t: Option<Tally>, passed: bool, q: Queue, claim: u32) -> Option<Tally>
     ensures { result ≡ tally_step small.slots t (record { passed = passed; queue = q; claim = claim }) }
 {
-    let seen = t.words;
-    if tally_fits(t, passed, q, claim) {
-        if q.held == 0 {
-            return Tally {
-                words: seen,
-                held: t.held,
-                claimed: t.claimed + claim,
-                ok: true,
-            };
-        }
-        return add_queue(t, passed, q, claim);
+    let t = t?;
+    if !tally_fits(t, passed, q, claim) {
+        None
+    } else if q.held == 0 {
+        Some(Tally {
+            claimed: t.claimed + claim,
+            ..t
+        })
+    } else {
+        add_queue(t, q, claim)
     }
-    has_failed()
 }

@@ -10,62 +10,39 @@ ghost use Rattle.message.specs.Capped.{tidy};
 use crate::links::{trail_ends, trail_from, trail_step};
 use crate::messages::{stage_ends, stage_step};
 use crate::order::{course_ends, course_from, course_step, line_fits};
-use message::{State, both};
+use message::State;
 use rules::carried::{Course, Stage, Walk};
 use rules::{Line, Queue, Slot, Standing};
 
 pub(crate) fn walk_from(q: Queue) -> Walk
     ensures { result ≡ walk_from small.none q }
 {
-    let trail = trail_from(q);
-    let course = course_from();
     Walk {
-        trail,
-        course,
-        stage: Stage::Start,
+        trail: trail_from(q),
+        course: course_from(),
+        stage: Some(Stage::Start),
     }
 }
 
 pub(crate) fn audit_step(t: Standing, w: Walk, i: Slot) -> Walk
     ensures { result ≡ step small.slots (tidy t) w i }
 {
-    let s = t.settings;
-    let l = t.line;
-    let p = i.packet;
-    let links = w.trail;
-    let order = w.course;
-    let messages = w.stage;
-    let trail = trail_step(links, i);
-    let course = course_step(s, l, order, p);
-    let stage = stage_step(s, messages, p);
     Walk {
-        trail,
-        course,
-        stage,
+        trail: trail_step(w.trail, i),
+        course: course_step(t.settings, t.line, w.course, i.packet),
+        stage: stage_step(t.settings, w.stage, i.packet),
     }
 }
 
-fn ready_ends(l: Line, order: Course, messages: Stage) -> bool
+fn ready_ends(l: Line, order: Option<Course>, messages: Option<Stage>) -> bool
     ensures { result ≡ (line_fits l and course_ends l order and stage_ends messages) }
 {
-    let fits = line_fits(l);
-    let whole = course_ends(l, order);
-    let closed = stage_ends(messages);
-    let ok = both(whole, closed);
-    both(fits, ok)
+    line_fits(l) && course_ends(l, order) && stage_ends(messages)
 }
 
 pub(crate) fn walk_ends(t: Standing, q: Queue, w: Walk) -> bool
     ensures { result ≡ walk_ends small.none t q w }
 {
-    let l = t.line;
-    let links = w.trail;
-    let order = w.course;
-    let messages = w.stage;
-    let run = trail_ends(q, links);
-    if t.state != State::READY {
-        return both(run, true);
-    }
-    let rest = ready_ends(l, order, messages);
-    both(run, rest)
+    trail_ends(q, w.trail)
+        && (t.state != State::Ready as u32 || ready_ends(t.line, w.course, w.stage))
 }

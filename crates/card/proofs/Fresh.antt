@@ -8,6 +8,7 @@ use native.Mathlib.Omega.{arith}
 use lib.Dec.{eqb}
 use borrow.Author.Tests.{eqb-true}
 use lib.ListN.{length, set, drop, length-set}
+use Rattle.refusal.specs.declared.Refusal.TheVariants as refusal
 use Rattle.refusal.proofs.Loop.{loop-done, loop-more}
 use Rattle.rules.specs.Message.{from}
 use Rattle.rules.specs.declared.Ends.{Ends}
@@ -21,14 +22,14 @@ use Rattle.card.specs.declared.Started.{Started}
 use Rattle.card.specs.Inner.{Filled, fill_turn, fill, pair_row, free_slot, starts_all, starts_none, start_of}
 
 module _ {A : Type 0} (row : ℕ → A) where
-  pub fill-less : (x : Filled A) → 0 < x.work.left → (fill_turn row x).work.left < x.work.left
+  pub fill-less : (x : Filled A) → 0 < x.left → (fill_turn row x).left < x.left
   fill-less x l = omega (arith, l)
 
-  fill_done : (x : Filled A) → x.work.left ≡ 0 → fill row x ≡ x
-  fill_done = loop-done (λ (y : Filled A). y.work.left) (fill_turn row) fill-less
+  fill_done : (x : Filled A) → x.left ≡ 0 → fill row x ≡ x
+  fill_done = loop-done (λ (y : Filled A). y.left) (fill_turn row) fill-less
 
-  fill_more : (x : Filled A) → 0 < x.work.left → fill row x ≡ fill row (fill_turn row x)
-  fill_more = loop-more (λ (y : Filled A). y.work.left) (fill_turn row) fill-less
+  fill_more : (x : Filled A) → 0 < x.left → fill row x ≡ fill row (fill_turn row x)
+  fill_more = loop-more (λ (y : Filled A). y.left) (fill_turn row) fill-less
 
   -- the record that is written is the first of those behind
   drop-set : (k : ℕ) (xs : List A) (a : A) → k < length xs → drop k (set xs k a) ≡ a ∷ drop (suc k) xs
@@ -40,13 +41,13 @@ module _ {A : Type 0} (row : ℕ → A) where
   more_rows b zero ys = ap (λ (n : ℕ). row n ∷ ys) (omega arith)
   more_rows b (suc k) ys = ap (λ (zs : List A). row b ∷ zs) (ap (λ (n : ℕ). map row (from (suc b) k) ++ (row n ∷ ys)) (omega arith) ∙ more_rows (suc b) k ys)
 
-  pub fill_is : (k : ℕ) (xs : List A) → k ≤ length xs → (fill row (record { work = record { left = k }; rows = xs })).rows ≡ map row (from 1 k) ++ drop k xs
-  fill_is zero xs l = ap (λ (y : Filled A). y.rows) (fill_done (record { work = record { left = 0 }; rows = xs }) refl)
+  pub fill_is : (k : ℕ) (xs : List A) → k ≤ length xs → (fill row (record { left = k; rows = xs })).rows ≡ map row (from 1 k) ++ drop k xs
+  fill_is zero xs l = ap (λ (y : Filled A). y.rows) (fill_done (record { left = 0; rows = xs }) refl)
   fill_is (suc k) xs l =
       let one : suc k - 1 ≡ k = omega arith in
       let next : suc k ≡ k + 1 = omega arith in
-      ap (λ (y : Filled A). y.rows) (fill_more (record { work = record { left = suc k }; rows = xs }) (omega arith))
-      ∙ ap (λ (n : ℕ). (fill row (record { work = record { left = n }; rows = set xs n (row (suc k)) })).rows) one
+      ap (λ (y : Filled A). y.rows) (fill_more (record { left = suc k; rows = xs }) (omega arith))
+      ∙ ap (λ (n : ℕ). (fill row (record { left = n; rows = set xs n (row (suc k)) })).rows) one
       ∙ fill_is k (set xs k (row (suc k))) (omega (arith, length-set xs k (row (suc k)), l))
       ∙ ap (λ (ys : List A). map row (from 1 k) ++ ys) (drop-set k xs (row (suc k)) (omega (arith, l)))
       ∙ ap (λ (n : ℕ). map row (from 1 k) ++ (row n ∷ drop (suc k) xs)) next
@@ -59,12 +60,12 @@ drop_all zero (x ∷ xs) e = absurd (omega (arith, e))
 drop_all (suc k) (x ∷ xs) e = drop_all k xs (omega (arith, e))
 
 -- a table of k records, each written
-all-rows : {A : Type 0} (row : ℕ → A) (k : ℕ) (xs : List A) → length xs ≡ k → (fill row (record { work = record { left = k }; rows = xs })).rows ≡ map row (from 1 k) ++ []
+all-rows : {A : Type 0} (row : ℕ → A) (k : ℕ) (xs : List A) → length xs ≡ k → (fill row (record { left = k; rows = xs })).rows ≡ map row (from 1 k) ++ []
 all-rows row k xs e = fill_is row k xs (omega (arith, e)) ∙ ap (λ ys. map row (from 1 k) ++ ys) (drop_all k xs e)
 
 -- and none
-no_rows : {A : Type 0} (row : ℕ → A) (xs : List A) → (fill row (record { work = record { left = 0 }; rows = xs })).rows ≡ xs
-no_rows row xs = ap (λ (y : Filled _). y.rows) (fill_done row (record { work = record { left = 0 }; rows = xs }) refl)
+no_rows : {A : Type 0} (row : ℕ → A) (xs : List A) → (fill row (record { left = 0; rows = xs })).rows ≡ xs
+no_rows row xs = ap (λ (y : Filled _). y.rows) (fill_done row (record { left = 0; rows = xs }) refl)
 
 module _ (pairs : List Pair) (ends : Ends) (slots : List Slot) where
   abbrev before : Tables
@@ -74,18 +75,18 @@ module _ (pairs : List Pair) (ends : Ends) (slots : List Slot) where
   abbrev Same : Started → Step Tables → Type 0
   Same s c =
       (s.reply ≡ c.said.reply)
-      × (((fill pair_row (record { work = s.pairs; rows = pairs })).rows ≡ c.next.pairs)
-      × ((s.ends ≡ c.next.ends) × ((fill free_slot (record { work = s.slots; rows = slots })).rows ≡ c.next.slots)))
+      × (((fill pair_row (record { left = s.pairs; rows = pairs })).rows ≡ c.next.pairs)
+      × ((s.ends ≡ c.next.ends) × ((fill free_slot (record { left = s.slots; rows = slots })).rows ≡ c.next.slots)))
 
   all_same : length pairs ≡ 64 → length slots ≡ 256 → Same starts_all (started (fresh small))
   unfolding fresh relinked slot_at
   all_same p s = (refl, (all-rows pair_row 64 pairs p, (refl, all-rows free_slot 256 slots s)))
 
-  none-same : Same (starts_none ends) (refuse 15 [] before)
+  none-same : Same (starts_none ends) (refuse refusal.Audit [] before)
   none-same = (refl, (no_rows pair_row pairs, (refl, no_rows free_slot slots)))
 
   go : (p s : Bool) → (p ≡ true → length pairs ≡ 64) → (s ≡ true → length slots ≡ 256)
-      → Same (if p && s then starts_all else starts_none ends) (if p && s then started (fresh small) else refuse 15 [] before)
+      → Same (if p && s then starts_all else starts_none ends) (if p && s then started (fresh small) else refuse refusal.Audit [] before)
   go true true e f = all_same (e refl) (f refl)
   go true false e f = none-same
   go false s e f = none-same

@@ -6,6 +6,8 @@ use native.Mathlib.Omega.{arith}
 use lib.ListN.{length}
 use Rattle.rules.specs.declared.Ends.{Ends}
 use Rattle.rules.specs.declared.Pair.{Pair}
+use Rattle.std.specs.Prelude.{Result}
+use Rattle.refusal.specs.declared.Refusal.{Refusal}
 use Rattle.rules.specs.declared.Reply.{Reply}
 use Rattle.rules.specs.declared.Slot.{Slot}
 use Rattle.rules.specs.Calls.{Said, Step, call}
@@ -90,12 +92,12 @@ memory-holds t np ns e m es h =
 
 -- ---- determinism
 
-pub answers-determined : (c : Call) (t : Tables) (r r' : Reply) (p p' : List Pair) (e e' : Ends) (l l' : List Slot)
+pub answers-determined : (c : Call) (t : Tables) (r r' : Result Reply Refusal) (p p' : List Pair) (e e' : Ends) (l l' : List Slot)
     → Answers c t r p e l → Answers c t r' p' e' l' → (r ≡ r') × (lent p e l ≡ lent p' e' l')
 answers-determined c t r r' p p' e e' l l' (a, (b, (d, f))) (a', (b', (d', f'))) =
     (a ∙ sym a', λ i. lent ((b ∙ sym b') i) ((d ∙ sym d') i) ((f ∙ sym f') i))
 
-pub fills-determined : (c : Call) (t : Tables) (r r' : Reply) (p p' : List Pair) (e e' : Ends) (l l' : List Slot) (x x' : List ℕ)
+pub fills-determined : (c : Call) (t : Tables) (r r' : Result Reply Refusal) (p p' : List Pair) (e e' : Ends) (l l' : List Slot) (x x' : List ℕ)
     → Fills c t r p e l x → Fills c t r' p' e' l' x' → (r ≡ r') × ((lent p e l ≡ lent p' e' l') × (x ≡ x'))
 fills-determined c t r r' p p' e e' l l' x x' (a, (b, (d, (f, g)))) (a', (b', (d', (f', g')))) =
     (a ∙ sym a', (λ i. lent ((b ∙ sym b') i) ((d ∙ sym d') i) ((f ∙ sym f') i), g ∙ sym g'))

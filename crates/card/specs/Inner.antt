@@ -1,11 +1,13 @@
 -- What private functions promise one another; nobody need believe it.
-use Rattle.std.specs.Prelude.{◌≡◌, List, ◌&&◌, ℕ, ◌-◌, min, eqb, length, set, if◌then◌else◌}
+use Rattle.std.specs.Prelude.{◌≡◌, [], List, ◌&&◌, ℕ, ◌-◌, min, eqb, length, set, Result, Ok, Err, if◌then◌else◌}
+use Rattle.refusal.specs.declared.Refusal.{Refusal}
+use Rattle.refusal.specs.declared.Refusal.TheVariants as refusal
 use Rattle.refusal.specs.Loop.{loop}
 use Rattle.rules.specs.declared.Answer.TheVariants.{Done}
 use Rattle.rules.specs.declared.Ends.{Ends}
 use Rattle.rules.specs.declared.Pair.{Pair}
 use Rattle.rules.specs.declared.Reply.{Reply}
-use Rattle.rules.specs.declared.Reply.TheVariants.{Answered, Refused}
+use Rattle.rules.specs.declared.Reply.TheVariants.{Answered}
 use Rattle.rules.specs.declared.Slot.{Slot}
 use Rattle.rules.specs.Account.{no_packet, no_standing}
 use Rattle.rules.specs.Card.{small}
@@ -20,7 +22,6 @@ use Rattle.engine.specs.Settling.{settled_of}
 use Rattle.walks.specs.Acting.{leave, join, emit}
 use Rattle.engine.specs.Body.{Ran, acted, scan_of}
 use Rattle.card.specs.declared.Limits.{Limits}
-use Rattle.card.specs.declared.Filling.{Filling}
 use Rattle.card.specs.declared.Started.{Started}
 use Rattle.card.specs.declared.Walked.{Walked}
 
@@ -58,9 +59,16 @@ Acts x r slots done out = (r ≡ x.walked) × ((slots ≡ x.slots) × ((done ≡
 abbrev pub finished : Pair → Ends → Plan → Walked → Settled
 finished p e g w = settled_of p e g w.leaving w.joining w.emitting
 
-abbrev pub Runs : Ran → Reply → List Pair → Ends → List Slot → List ℕ → List ℕ → Type 0
+abbrev pub Runs : Ran → Result Reply Refusal → List Pair → Ends → List Slot → List ℕ → List ℕ → Type 0
 Runs x r pairs ends slots done out =
     (r ≡ x.reply) × ((pairs ≡ x.tables.pairs) × ((ends ≡ x.tables.ends) × ((slots ≡ x.tables.slots) × ((done ≡ x.numbers) × (out ≡ x.bytes)))))
+
+-- a call that is lent numbers, and no bytes
+abbrev pub with_numbers : ℕ → Ask → Tables → List ℕ → Ran
+with_numbers at ask t done = body_in (record { numbers = length done; bytes = 0 }) at ask t done []
+
+abbrev pub Leaves : Ran → Result Reply Refusal → List Pair → Ends → List Slot → List ℕ → Type 0
+Leaves x r pairs ends slots done = (r ≡ x.reply) × ((pairs ≡ x.tables.pairs) × ((ends ≡ x.tables.ends) × ((slots ≡ x.tables.slots) × (done ≡ x.numbers))))
 
 -- ---- a fresh start, from the last record to the first
 
@@ -71,18 +79,15 @@ closed_pair = record { standing = no_standing; queue = record { first = small.no
 abbrev pub free_slot : ℕ → Slot
 free_slot i = record { link = i; packet = no_packet }
 
-abbrev pub fill_step : Filling → Filling
-fill_step w = record { left = w.left - 1 }
-
 pub record Filled (A : Type 0) : Type 0 where
-  pub work : Filling
+  pub left : ℕ
   pub rows : List A
 
 abbrev pub fill_turn : {A : Type 0} → (ℕ → A) → Filled A → Filled A
-fill_turn row x = record { work = fill_step x.work; rows = set x.rows (x.work.left - 1) (row x.work.left) }
+fill_turn row x = record { left = x.left - 1; rows = set x.rows (x.left - 1) (row x.left) }
 
 abbrev pub fill : {A : Type 0} → (ℕ → A) → Filled A → Filled A
-fill {A} row x = loop (λ (y : Filled A). y.work.left) (fill_turn row) x
+fill {A} row x = loop (λ (y : Filled A). y.left) (fill_turn row) x
 
 abbrev pub pair_row : ℕ → Pair
 pair_row i = closed_pair
@@ -91,14 +96,14 @@ pair_row i = closed_pair
 abbrev pub starts_all : Started
 starts_all =
     record {
-      pairs = record { left = small.pairs };
-      slots = record { left = small.slots };
+      pairs = small.pairs;
+      slots = small.slots;
       ends = record { first = 0; last = small.slots - 1 };
-      reply = Answered Done 0 0;
+      reply = Ok (Answered Done 0 0);
     }
 
 abbrev pub starts_none : Ends → Started
-starts_none e = record { pairs = record { left = 0 }; slots = record { left = 0 }; ends = e; reply = Refused 15 }
+starts_none e = record { pairs = 0; slots = 0; ends = e; reply = Err refusal.Audit }
 
 unfoldable pub start_of : ℕ → ℕ → Ends → Started
 start_of pairs slots e = if eqb pairs small.pairs && eqb slots small.slots then starts_all else starts_none e

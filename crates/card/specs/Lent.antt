@@ -1,5 +1,6 @@
 -- What a public call leaves of all that it was lent: the rules' call, and nothing else.
-use Rattle.std.specs.Prelude.{◌≡◌, List, ℕ}
+use Rattle.std.specs.Prelude.{◌≡◌, List, ℕ, Result}
+use Rattle.refusal.specs.declared.Refusal.{Refusal}
 use Rattle.rules.specs.declared.Ends.{Ends}
 use Rattle.rules.specs.declared.Pair.{Pair}
 use Rattle.rules.specs.declared.Reply.{Reply}
@@ -14,12 +15,12 @@ abbrev pub lent : List Pair → Ends → List Slot → Tables
 lent pairs ends slots = record { pairs = pairs; ends = ends; slots = slots }
 
 -- the answer and the tables are those of the rules' call on the lent tables
-abbrev pub Answers : Call → Tables → Reply → List Pair → Ends → List Slot → Type 0
+abbrev pub Answers : Call → Tables → Result Reply Refusal → List Pair → Ends → List Slot → Type 0
 Answers c t r pairs ends slots =
     let s = call small c t in (r ≡ s.said.reply) × ((pairs ≡ s.next.pairs) × ((ends ≡ s.next.ends) × (slots ≡ s.next.slots)))
 
 -- and so is the lent buffer
-abbrev pub Fills : Call → Tables → Reply → List Pair → Ends → List Slot → List ℕ → Type 0
+abbrev pub Fills : Call → Tables → Result Reply Refusal → List Pair → Ends → List Slot → List ℕ → Type 0
 Fills c t r pairs ends slots buffer =
     let s = call small c t in
     (r ≡ s.said.reply) × ((pairs ≡ s.next.pairs) × ((ends ≡ s.next.ends) × ((slots ≡ s.next.slots) × (buffer ≡ s.said.buffer))))

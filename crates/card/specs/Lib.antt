@@ -1,3 +1,4 @@
 pub mod Lent
 pub mod Inner
+pub mod Walking
 pub mod Memory

@@ -1,5 +1,5 @@
 -- A host's memory over any calls, where it hands the tables on as the call before left them: each step is what the contract of the called function says, and no more.
-use Rattle.std.specs.Prelude.{◌≡◌, List, [], ◌∷◌, ◌++◌, map, ℕ, ◌≤◌, ◌<◌, length}
+use Rattle.std.specs.Prelude.{◌≡◌, List, [], ◌∷◌, ◌++◌, map, ℕ, ◌≤◌, ◌<◌, length, Ok}
 use Rattle.rules.specs.declared.Post.{Post}
 use Rattle.rules.specs.declared.Reply.TheVariants.{First}
 use Rattle.rules.specs.Account.{N}
@@ -56,7 +56,7 @@ pub record Holds (es : List Event) (m : Tables) : Type 0 where
   pub told : (p : ℕ) → (ledger small p (calls es)).told ≡ completions (ledger small p (calls es)).departed
   pub once : (i : ℕ) → i < small.slots → times i (free m ++ concat (queues m)) ≡ 1
   pub ceiling : (p : ℕ) → p < small.pairs → length (queue m p) ≤ (side m p).standing.settings.ceiling
-  pub room : (p : ℕ) (q : Post) → WithinShare small m p q → (call small (on p (posting q)) m).said.reply ≡ First (N (side m p))
+  pub room : (p : ℕ) (q : Post) → WithinShare small m p q → (call small (on p (posting q)) m).said.reply ≡ Ok (First (N (side m p)))
 
 -- "After any sequence of calls from a fresh start": whatever stood in the host's 64 and 256 records before it
 abbrev pub MemoryHolds : Type 0

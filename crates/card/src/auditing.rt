@@ -1,63 +1,74 @@
 // The audit over the lent tables: each queue slot by slot, pair by pair, then the free queue. Nothing is written.
 ghost use Rattle.std.specs.Prelude.{◌≡◌};
 ghost use Rattle.rules.specs.Slots.{Tables};
-ghost use Rattle.audit.specs.Loops.{follow_turn, follow as followed, trace_turn, trace as traced, audit_turn, audit_pairs, audited};
+ghost use Rattle.audit.specs.Steps.{follow_step, trace_step};
+ghost use Rattle.audit.specs.Loops.{audit_turn, audit_pairs, audited};
+ghost use Rattle.card.specs.Walking.{follow_less, trace_less};
 
-use crate::places::{pair_at, slot_at};
+use crate::places::pair_at;
+use crate::walking::{Walk, follow};
 use audit::{
-    Audited, Auditing, Following, Tracing, begin_audit, follow_step, join_free, join_queue,
-    next_free, next_pair, next_slot, open_free, open_queue, trace_step,
+    Auditing, Following, Tracing, begin_audit, follow_step, join_free, join_queue, next_free,
+    next_pair, next_slot, open_free, open_queue, trace_step,
 };
 use rules::{Ends, Pair, Slot};
 
-pub(crate) fn follow_turn(slots: &mut [Slot], w: Following) -> Following
-    ensures { (result ≡ follow_turn slots.old w) × (slots.new ≡ slots.old) }
-{
-    let i = next_slot(w);
-    let s = slot_at(slots, i);
-    follow_step(w, s)
-}
+// One pair's queue.
+impl Walk for Following {
+    ghost remaining = { λ w. w.left };
 
-pub(crate) fn follow(slots: &mut [Slot], start: Following) -> Following
-    ensures { (result ≡ followed slots.old start) × (slots.new ≡ slots.old) }
-{
-    let mut w = start;
-    while w.left > 0 {
-        w = follow_turn(slots, w);
+    ghost next = { λ w. w.walk.trail.at };
+
+    ghost onward = { follow_step };
+
+    ghost less = { follow_less };
+
+    fn left(self) -> u32 {
+        self.left
     }
-    w
-}
 
-pub(crate) fn trace_turn(slots: &mut [Slot], w: Tracing) -> Tracing
-    ensures { (result ≡ trace_turn slots.old w) × (slots.new ≡ slots.old) }
-{
-    let i = next_free(w);
-    let s = slot_at(slots, i);
-    trace_step(w, s)
-}
-
-pub(crate) fn trace(slots: &mut [Slot], start: Tracing) -> Tracing
-    ensures { (result ≡ traced slots.old start) × (slots.new ≡ slots.old) }
-{
-    let mut w = start;
-    while w.left > 0 {
-        w = trace_turn(slots, w);
+    fn at(self) -> usize {
+        next_slot(self)
     }
-    w
+
+    fn step(self, slot: Slot) -> Following {
+        follow_step(self, slot)
+    }
 }
 
-pub(crate) fn audit_turn(pairs: &mut [Pair], slots: &mut [Slot], v: Auditing) -> Auditing
-    ensures { (result ≡ audit_turn pairs.old slots.old v) × ((pairs.new ≡ pairs.old) × (slots.new ≡ slots.old)) }
+// The free queue.
+impl Walk for Tracing {
+    ghost remaining = { λ w. w.left };
+
+    ghost next = { λ w. w.trail.at };
+
+    ghost onward = { trace_step };
+
+    ghost less = { trace_less };
+
+    fn left(self) -> u32 {
+        self.left
+    }
+
+    fn at(self) -> usize {
+        next_free(self)
+    }
+
+    fn step(self, slot: Slot) -> Tracing {
+        trace_step(self, slot)
+    }
+}
+
+fn audit_turn(pairs: &[Pair], slots: &[Slot], v: Auditing) -> Auditing
+    ensures { result ≡ audit_turn pairs.now slots.now v }
 {
-    let i = next_pair(v);
-    let p = pair_at(pairs, i);
-    let start = open_queue(v, p);
-    let w = follow(slots, start);
-    join_queue(v, p, w)
+    let p = pair_at(pairs, next_pair(v));
+    join_queue(v, p, open_queue(v, p).map(|w| follow(slots, w)))
 }
 
-pub(crate) fn audit_pairs(pairs: &mut [Pair], slots: &mut [Slot], start: Auditing) -> Auditing
-    ensures { (result ≡ audit_pairs pairs.old slots.old start) × ((pairs.new ≡ pairs.old) × (slots.new ≡ slots.old)) }
+// No `for` over the pairs: how many are left is in what is carried, and is 0 once a pair failed.
+fn audit_pairs(pairs: &[Pair], slots: &[Slot], start: Auditing) -> Auditing
+    ensures { result ≡ audit_pairs pairs.now slots.now start }
 {
     let mut v = start;
     while v.left > 0 {
@@ -66,12 +77,11 @@ pub(crate) fn audit_pairs(pairs: &mut [Pair], slots: &mut [Slot], start: Auditin
     v
 }
 
-pub(crate) fn audit_tables(pairs: &mut [Pair], slots: &mut [Slot], e: Ends) -> Audited
-    ensures { (result ≡ audited (record { pairs = pairs.old; ends = e; slots = slots.old })) × ((pairs.new ≡ pairs.old) × (slots.new ≡ slots.old)) }
+// How many slots the open pairs claim, where the tables pass.
+pub(crate) fn audit_tables(pairs: &[Pair], slots: &[Slot], e: Ends) -> Option<u32>
+    ensures { result ≡ audited (record { pairs = pairs.now; ends = e; slots = slots.now }) }
 {
-    let start = begin_audit(pairs.len(), slots.len());
-    let v = audit_pairs(pairs, slots, start);
-    let rest = open_free(v, e);
-    let w = trace(slots, rest);
+    let v = audit_pairs(pairs, slots, begin_audit(pairs.len(), slots.len()));
+    let w = follow(slots, open_free(v, e));
     join_free(v, e, w)
 }

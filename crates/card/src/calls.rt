@@ -1,39 +1,61 @@
-// The calls by their own names. Each asks the one body, and lends it a row of one in place of a buffer that the call does not use.
+// The calls by their own names. The three tables stay three arguments, as C lends them: a struct of three `&mut`s would have each call promise in three clauses more that they are the same after.
+// Each asks the one body, and lends it an empty row in place of a buffer that the call does not use.
 ghost use Rattle.std.specs.Prelude.{◌≡◌};
 ghost use Rattle.rules.specs.Card.{small};
 ghost use Rattle.rules.specs.Requests.{opening, posting, emitting, acknowledging, responding, ticking, closing, starting, on};
 ghost use Rattle.rules.specs.Passes.Tables.{passes};
 ghost use Rattle.card.specs.Lent.{lent, Answers, Fills};
+ghost use Rattle.card.specs.Inner.{with_numbers, Leaves};
 
-use crate::asking::{
-    limits_of, to_acknowledge, to_close, to_emit, to_open, to_post, to_respond, to_tick,
-};
+use crate::Limits;
 use crate::auditing::audit_tables;
 use crate::body::call;
-use crate::starting::{fill_pairs, fill_slots, start_of};
+use crate::starting::{fill, start_of};
+use engine::Ask;
+use refusal::Refusal;
 use rules::{Ends, Pair, Post, Reply, Settings, Slot};
 
 // Whether the tables pass.
-pub fn audit(pairs: &mut [Pair], ends: &mut Ends, slots: &mut [Slot]) -> bool
-    ensures { (result ≡ passes small (lent pairs.old ends.old slots.old))
-        × ((pairs.new ≡ pairs.old) × ((ends.new ≡ ends.old) × (slots.new ≡ slots.old))) }
+pub fn audit(pairs: &[Pair], ends: &Ends, slots: &[Slot]) -> bool
+    ensures { result ≡ passes small (lent pairs.now ends.now slots.now) }
 {
-    let e = *ends;
-    let v = audit_tables(pairs, slots, e);
-    v.ok
+    audit_tables(pairs, slots, *ends).is_some()
 }
 
 // All pairs closed, all slots free: from any contents.
-pub fn fresh_start(pairs: &mut [Pair], ends: &mut Ends, slots: &mut [Slot]) -> Reply
+pub fn fresh_start(
+    pairs: &mut [Pair],
+    ends: &mut Ends,
+    slots: &mut [Slot],
+) -> Result<Reply, Refusal>
     ensures { Answers starting (lent pairs.old ends.old slots.old)
         result pairs.new ends.new slots.new }
 {
-    let e = *ends;
-    let s = start_of(pairs.len(), slots.len(), e);
-    fill_pairs(pairs, s.pairs);
-    fill_slots(slots, s.slots);
+    let s = start_of(pairs.len(), slots.len(), *ends);
+    fill(pairs, s.pairs);
+    fill(slots, s.slots);
     *ends = s.ends;
     s.reply
+}
+
+// As many numbers as are lent, and no bytes.
+fn call_with_numbers(
+    pairs: &mut [Pair],
+    ends: &mut Ends,
+    slots: &mut [Slot],
+    done: &mut [u32],
+    pair: u32,
+    ask: Ask,
+) -> Result<Reply, Refusal>
+    ensures { Leaves (with_numbers pair ask (lent pairs.old ends.old slots.old) done.old)
+        result pairs.new ends.new slots.new done.new }
+{
+    let limits = Limits {
+        numbers: done.len(),
+        bytes: 0,
+    };
+    let mut out = [0u8; 0];
+    call(pairs, ends, slots, done, &mut out, limits, pair, ask)
 }
 
 pub fn open_pair(
@@ -43,15 +65,13 @@ pub fn open_pair(
     pair: u32,
     settings: Settings,
     first: u32,
-) -> Reply
+) -> Result<Reply, Refusal>
     ensures { Answers (on pair (opening settings first)) (lent pairs.old ends.old slots.old)
         result pairs.new ends.new slots.new }
 {
-    let ask = to_open(settings, first);
-    let limits = limits_of(1, 0);
-    let mut done = [0u32; 1];
-    let mut out = [0u8; 1];
-    call(pairs, ends, slots, &mut done, &mut out, limits, pair, ask)
+    let ask = Ask::Open { settings, first };
+    let mut done = [0u32; 0];
+    call_with_numbers(pairs, ends, slots, &mut done, pair, ask)
 }
 
 pub fn post_message(
@@ -60,15 +80,13 @@ pub fn post_message(
     slots: &mut [Slot],
     pair: u32,
     post: Post,
-) -> Reply
+) -> Result<Reply, Refusal>
     ensures { Answers (on pair (posting post)) (lent pairs.old ends.old slots.old)
         result pairs.new ends.new slots.new }
 {
-    let ask = to_post(post);
-    let limits = limits_of(1, 0);
-    let mut done = [0u32; 1];
-    let mut out = [0u8; 1];
-    call(pairs, ends, slots, &mut done, &mut out, limits, pair, ask)
+    let ask = Ask::Post { post };
+    let mut done = [0u32; 0];
+    call_with_numbers(pairs, ends, slots, &mut done, pair, ask)
 }
 
 // Records of 48 bytes, of packets from X on.
@@ -79,13 +97,16 @@ pub fn emit_packets(
     out: &mut [u8],
     pair: u32,
     budget: u32,
-) -> Reply
+) -> Result<Reply, Refusal>
     ensures { Fills (on pair (emitting budget out.old)) (lent pairs.old ends.old slots.old)
         result pairs.new ends.new slots.new out.new }
 {
-    let ask = to_emit(budget);
-    let limits = limits_of(0, out.len());
-    let mut done = [0u32; 1];
+    let ask = Ask::Emit { budget };
+    let limits = Limits {
+        numbers: 0,
+        bytes: out.len(),
+    };
+    let mut done = [0u32; 0];
     call(pairs, ends, slots, &mut done, out, limits, pair, ask)
 }
 
@@ -98,14 +119,12 @@ pub fn acknowledge(
     pair: u32,
     psn: u32,
     syndrome: u32,
-) -> Reply
+) -> Result<Reply, Refusal>
     ensures { Fills (on pair (acknowledging psn syndrome done.old)) (lent pairs.old ends.old slots.old)
         result pairs.new ends.new slots.new done.new }
 {
-    let ask = to_acknowledge(psn, syndrome);
-    let limits = limits_of(done.len(), 0);
-    let mut out = [0u8; 1];
-    call(pairs, ends, slots, done, &mut out, limits, pair, ask)
+    let ask = Ask::Acknowledge { psn, syndrome };
+    call_with_numbers(pairs, ends, slots, done, pair, ask)
 }
 
 pub fn read_response(
@@ -117,14 +136,16 @@ pub fn read_response(
     psn: u32,
     opcode: u32,
     length: u32,
-) -> Reply
+) -> Result<Reply, Refusal>
     ensures { Fills (on pair (responding psn opcode length done.old)) (lent pairs.old ends.old slots.old)
         result pairs.new ends.new slots.new done.new }
 {
-    let ask = to_respond(psn, opcode, length);
-    let limits = limits_of(done.len(), 0);
-    let mut out = [0u8; 1];
-    call(pairs, ends, slots, done, &mut out, limits, pair, ask)
+    let ask = Ask::Respond {
+        psn,
+        opcode,
+        length,
+    };
+    call_with_numbers(pairs, ends, slots, done, pair, ask)
 }
 
 // So many ns have passed.
@@ -135,14 +156,11 @@ pub fn timer_step(
     done: &mut [u32],
     pair: u32,
     elapsed: u64,
-) -> Reply
+) -> Result<Reply, Refusal>
     ensures { Fills (on pair (ticking elapsed done.old)) (lent pairs.old ends.old slots.old)
         result pairs.new ends.new slots.new done.new }
 {
-    let ask = to_tick(elapsed);
-    let limits = limits_of(done.len(), 0);
-    let mut out = [0u8; 1];
-    call(pairs, ends, slots, done, &mut out, limits, pair, ask)
+    call_with_numbers(pairs, ends, slots, done, pair, Ask::Tick { elapsed })
 }
 
 pub fn close_pair(
@@ -151,12 +169,9 @@ pub fn close_pair(
     slots: &mut [Slot],
     done: &mut [u32],
     pair: u32,
-) -> Reply
+) -> Result<Reply, Refusal>
     ensures { Fills (on pair (closing done.old)) (lent pairs.old ends.old slots.old)
         result pairs.new ends.new slots.new done.new }
 {
-    let ask = to_close();
-    let limits = limits_of(done.len(), 0);
-    let mut out = [0u8; 1];
-    call(pairs, ends, slots, done, &mut out, limits, pair, ask)
+    call_with_numbers(pairs, ends, slots, done, pair, Ask::Close)
 }

@@ -8,8 +8,8 @@ mod auditing;
 mod body;
 mod calls;
 mod places;
-mod scanning;
 mod starting;
+mod walking;
 
 pub use body::call;
 pub use calls::{
@@ -17,33 +17,28 @@ pub use calls::{
     read_response, timer_step,
 };
 pub use places::{no_pair, no_slot, pair_at, slot_at};
+use refusal::Refusal;
 use rules::{Ends, Reply};
 use walks::{Emitting, Joining, Leaving};
 
 // As much of the two lent buffers as a call may use.
-#[derive(Clone, Copy)]
+#[derive(Clone, Copy, Debug, PartialEq, Eq)]
 pub struct Limits {
     pub numbers: usize,
     pub bytes: usize,
 }
 
-// Records on the way to a fresh start: how many are left, from the last to the first.
-#[derive(Clone, Copy)]
-pub struct Filling {
-    pub left: u32,
-}
-
 // What a fresh start does: so many pairs and slots are written, or none, and the ends and the answer.
-#[derive(Clone, Copy)]
+#[derive(Clone, Copy, Debug, PartialEq, Eq)]
 pub struct Started {
-    pub pairs: Filling,
-    pub slots: Filling,
+    pub pairs: u32,
+    pub slots: u32,
     pub ends: Ends,
-    pub reply: Reply,
+    pub reply: Result<Reply, Refusal>,
 }
 
 // What the three walks of a call come to.
-#[derive(Clone, Copy)]
+#[derive(Clone, Copy, Debug, PartialEq, Eq)]
 pub struct Walked {
     pub leaving: Leaving,
     pub joining: Joining,

@@ -1,14 +1,16 @@
 -- The body of every call is the rules' call: any tables, any arguments, any buffers.
+use Rattle.std.specs.Prelude.{Option, None, Some, Err}
 use mathlib.Core.Path.{◌≡◌, refl, sym, ap, ◌∙◌}
-use mathlib.Core.Bool.{true, false, not, true≢false}
+use mathlib.Core.Bool.{true, not}
 use mathlib.Core.List.{List, ◌∷◌}
 use Prim.Native.Nat.{ℕ}
-use lib.Dec.{eqb}
 use lib.ListN.{length}
 use Rattle.refusal.specs.Refusals.{◌gives◌, first_given}
+use Rattle.refusal.specs.declared.Refusal.{Refusal}
+use Rattle.refusal.specs.declared.Refusal.TheVariants.{Audit}
 use Rattle.refusal.proofs.Cases.{by-test}
+use Rattle.refusal.proofs.Given.{by-given, some-not-none}
 use Rattle.rules.specs.declared.Pair.{Pair}
-use Rattle.rules.specs.declared.Reply.TheVariants as reply
 use Rattle.rules.specs.Account.{Side}
 use Rattle.rules.specs.Calls.{effect, call}
 use Rattle.rules.specs.Card.{small}
@@ -23,7 +25,6 @@ use Rattle.audit.specs.Loops.{audited}
 use Rattle.audit.proofs.Decided.{audited-is, claimed-is}
 use Rattle.engine.specs.declared.Ask.{Ask}
 use Rattle.engine.specs.declared.Ask.TheVariants as ask
-use Rattle.engine.specs.declared.Told.TheVariants.{Refused}
 use Rattle.engine.specs.Asked.{asked, lent_of, numbers_after, bytes_after}
 use Rattle.engine.specs.Refusing.{refusal_of}
 use Rattle.engine.specs.Planning.{resting, accepted_plan, plan_of}
@@ -59,46 +60,46 @@ module _ (at : ℕ) (q : Ask) (t : Tables) (done out : List ℕ) where
   abbrev rq : Request
   rq = asked q (lent_of q done out)
 
-  -- the number that the rules give
-  number : ℕ
-  number = first_given (not (passes small t) gives 15 ∷ refusals small rq at (sides t))
+  -- the refusal that the rules give, if any
+  given : Option Refusal
+  given = first_given (not (passes small t) gives Audit ∷ refusals small rq at (sides t))
 
-  number_is : refusal_of (audited t) at pr (scan_of at q t) q (lent_of q (length done) (length out)) ≡ number
-  unfolding number scan_of
-  number_is =
+  given-is : refusal_of (audited t) at pr (scan_of at q t) q (lent_of q (length done) (length out)) ≡ given
+  unfolding given scan_of
+  given-is =
       refusal_is t at (audited t) (audited-is t) (claimed-is t) q (scan_of at q t)
       (λ ok. (scan-is t.slots (audited t) pr q ok).0) (λ ok. (scan-is t.slots (audited t) pr q ok).1) done out
 
   -- ---- refused
 
-  plan-refused : eqb number 0 ≡ false → plan_for at q t done out ≡ resting pr t.ends (Refused number) pr.standing
+  plan-refused : (r : Refusal) → given ≡ Some r → plan_for at q t done out ≡ resting pr t.ends (Err r) pr.standing
   unfolding plan_for plan_of
-  plan-refused e = rw (number_is, e)
+  plan-refused r e = rw (given-is, e)
 
-  ruled-refused : eqb number 0 ≡ false → ruled at q t done out ≡ record { reply = reply.Refused number; tables = t; numbers = done; bytes = out }
-  unfolding ruled call number
-  ruled-refused e =
-      rw e (λ i. record { reply = reply.Refused number; tables = t; numbers = numbers-kept q done out i; bytes = bytes-kept q done out i })
+  ruled-refused : (r : Refusal) → given ≡ Some r → ruled at q t done out ≡ record { reply = Err r; tables = t; numbers = done; bytes = out }
+  unfolding ruled call given
+  ruled-refused r e =
+      rw e (λ i. record { reply = Err r; tables = t; numbers = numbers-kept q done out i; bytes = bytes-kept q done out i })
 
   -- ---- accepted
 
-  plan-accepted : eqb number 0 ≡ true → plan_for at q t done out ≡ accepted_plan pr t.ends (scan_of at q t) q
+  plan-accepted : given ≡ None → plan_for at q t done out ≡ accepted_plan pr t.ends (scan_of at q t) q
   unfolding plan_for plan_of
-  plan-accepted e = rw (number_is, e)
+  plan-accepted e = rw (given-is, e)
 
-  passed : eqb number 0 ≡ true → passes small t ≡ true
-  unfolding number
-  passed e = by-test (passes small t) (λ p. p) (λ p. absurd (true≢false (sym (rw p at e))))
+  passed : given ≡ None → passes small t ≡ true
+  unfolding given
+  passed e = by-test (passes small t) (λ p. p) (λ p. some-not-none (rw p at e))
 
-  taken : eqb number 0 ≡ true → Accepted small rq at (sides t)
-  unfolding number
+  taken : given ≡ None → Accepted small rq at (sides t)
+  unfolding given
   taken e = accepted small rq at (sides t) (rw (passed e) at e)
 
-  ruled-accepted : eqb number 0 ≡ true → ruled at q t done out ≡ done_with at q t done out (effect rq (side t at))
-  unfolding ruled call number
+  ruled-accepted : given ≡ None → ruled at q t done out ≡ done_with at q t done out (effect rq (side t at))
+  unfolding ruled call given
   ruled-accepted e = rw e (ap (λ (s : Side). done_with at q t done out (effect rq s)) (side-at t at))
 
-  acted-accepted : eqb number 0 ≡ true
+  acted-accepted : given ≡ None
       → acted at t done out (accepted_plan pr t.ends (scan_of at q t) q) ≡ done_with at q t done out (effect rq (side t at))
   unfolding scan_of
   acted-accepted e =
@@ -110,6 +111,6 @@ module _ (at : ℕ) (q : Ask) (t : Tables) (done out : List ℕ) where
   pub body_is : body at q t done out ≡ ruled at q t done out
   unfolding body
   body_is =
-      by-test (eqb number 0)
+      by-given given
       (λ e. ap (acted at t done out) (plan-accepted e) ∙ acted-accepted e ∙ sym (ruled-accepted e))
-      (λ e. ap (acted at t done out) (plan-refused e) ∙ refused-leaves at t done out number pr.standing ∙ sym (ruled-refused e))
+      (λ r e. ap (acted at t done out) (plan-refused r e) ∙ refused-leaves at t done out r pr.standing ∙ sym (ruled-refused r e))

@@ -1,5 +1,6 @@
 -- One body for every call, over the tables: audit, the pair's record, scan, plan, the three walks, settle, write back. `body_is` says that it is the rules' call.
-use Rattle.std.specs.Prelude.{List, ℕ, length, set}
+use Rattle.std.specs.Prelude.{List, ℕ, length, set, Result}
+use Rattle.refusal.specs.declared.Refusal.{Refusal}
 use Rattle.rules.specs.declared.Reply.{Reply}
 use Rattle.rules.specs.Card.{small}
 use Rattle.rules.specs.Slots.{Tables, pair_at}
@@ -18,7 +19,7 @@ use Rattle.engine.specs.Settling.{settled_of}
 
 -- what a call leaves: its answer, the tables, and both buffers
 pub record Ran : Type 0 where
-  pub reply : Reply
+  pub reply : Result Reply Refusal
   pub tables : Tables
   pub numbers : List ℕ
   pub bytes : List ℕ

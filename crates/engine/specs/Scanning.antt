@@ -1,5 +1,5 @@
 -- What a call must know of its pair's queue before it decides: the first packet of a kind, found from the front on.
-use Rattle.std.specs.Prelude.{Bool, true, false, not, ◌&&◌, ◌||◌, List, ℕ, ◌-◌, ltb, eqb, if◌then◌else◌}
+use Rattle.std.specs.Prelude.{Bool, false, not, ◌&&◌, ◌||◌, List, ℕ, ◌-◌, Option, None, Some, is_some, if◌then◌else◌}
 use Rattle.psn.specs.Psn.{before}
 use Rattle.rules.specs.declared.Packet.{Packet}
 use Rattle.rules.specs.declared.Pair.{Pair}
@@ -11,79 +11,71 @@ use Rattle.rules.specs.Acknowledge.{inside}
 use Rattle.rules.specs.Response.{covers}
 use Rattle.rules.specs.Slots.{slot_at}
 use Rattle.rules.specs.Release.{stays}
-use Rattle.audit.specs.declared.Audited.{Audited}
 use Rattle.refusal.specs.Loop.{loop}
 use Rattle.message.specs.Capped.{tidy}
 use Rattle.engine.specs.declared.Ask.{Ask}
 use Rattle.engine.specs.declared.Ask.TheVariants.{Open, Post, Emit, Acknowledge, Respond, Tick, Close}
 use Rattle.engine.specs.declared.Seek.{Seek}
-use Rattle.engine.specs.declared.Seek.TheVariants.{Nothing, Read, Waiting, Staying, Covering}
-use Rattle.outcomes.specs.Finding.{nothing_found, bound_of}
+use Rattle.engine.specs.declared.Seek.TheVariants.{Read, Waiting, Staying, Covering}
+use Rattle.outcomes.specs.Finding.{bound_of}
 use Rattle.outcomes.specs.Deciding.{bare}
 use Rattle.engine.specs.declared.Search.{Search}
 use Rattle.engine.specs.declared.Scan.{Scan}
 
 -- the packet is one that is sought
-abbrev pub sought : Standing → Seek → Packet → Bool
-sought t Nothing p = false
-sought t Read p = is_read p
-sought t Waiting p = before t.line.u t.line.x (ends t.settings p)
-sought t (Staying b) p = stays b t p
-sought t (Covering r) p = covers t.settings r p
+abbrev pub sought : Standing → Option Seek → Packet → Bool
+sought t None p = false
+sought t (Some Read) p = is_read p
+sought t (Some Waiting) p = before t.line.u t.line.x (ends t.settings p)
+sought t (Some (Staying b)) p = stays b t p
+sought t (Some (Covering r)) p = covers t.settings r p
 
 -- a search goes on until it has found one
 abbrev pub seek_step : Standing → ℕ → ℕ → Packet → Search → Search
 seek_step t left at p c =
-    if ltb 0 c.found.left then c
-    else if sought t c.seek p then record { seek = c.seek; found = record { left = left; slot = at; packet = p } }
+    if not (is_some c.found) && sought t c.seek p
+    then record { seek = c.seek; found = Some (record { left = left; slot = at; packet = p }) }
     else c
 
-abbrev pub is_idle : Seek → Bool
-is_idle Nothing = true
-is_idle Read = false
-is_idle Waiting = false
-is_idle (Staying b) = false
-is_idle (Covering r) = false
-
 abbrev pub wants : Search → Bool
-wants c = not (is_idle c.seek) && eqb c.found.left 0
+wants c = is_some c.seek && not (is_some c.found)
 
 -- ---- what each call seeks
 
 -- only where the answer turns on it: a fence is asked for; R is inside the open range
-abbrev pub seek_if : Bool → Seek → Seek
-seek_if test k = if test then k else Nothing
+abbrev pub seek_if : Bool → Seek → Option Seek
+seek_if test k = if test then Some k else None
 
-abbrev pub main_seek : Standing → Ask → Seek
-main_seek t (Open settings first) = Nothing
+abbrev pub main_seek : Standing → Ask → Option Seek
+main_seek t (Open settings first) = None
 main_seek t (Post post) = seek_if post.fenced Read
-main_seek t (Emit budget) = Waiting
+main_seek t (Emit budget) = Some Waiting
 main_seek t (Acknowledge psn syndrome) = seek_if (inside psn (bare t)) (Staying (bound_of psn syndrome))
 main_seek t (Respond psn opcode length) = seek_if (inside psn (bare t)) (Staying psn)
-main_seek t (Tick elapsed) = Nothing
-main_seek t Close = Nothing
+main_seek t (Tick elapsed) = None
+main_seek t Close = None
 
-abbrev pub read_seek : Standing → Ask → Seek
-read_seek t (Open settings first) = Nothing
-read_seek t (Post post) = Nothing
-read_seek t (Emit budget) = Nothing
-read_seek t (Acknowledge psn syndrome) = Nothing
+abbrev pub read_seek : Standing → Ask → Option Seek
+read_seek t (Open settings first) = None
+read_seek t (Post post) = None
+read_seek t (Emit budget) = None
+read_seek t (Acknowledge psn syndrome) = None
 read_seek t (Respond psn opcode length) = seek_if (inside psn (bare t)) (Covering psn)
-read_seek t (Tick elapsed) = Nothing
-read_seek t Close = Nothing
+read_seek t (Tick elapsed) = None
+read_seek t Close = None
 
 -- ---- the scan
 
-abbrev pub search_for : Seek → Search
-search_for k = record { seek = k; found = nothing_found }
+abbrev pub search_for : Option Seek → Search
+search_for k = record { seek = k; found = None }
 
 -- a queue is walked only where the audit passed and something is wanted
-abbrev pub begin_scan : Audited → Pair → Ask → Scan
+abbrev pub begin_scan : Option ℕ → Pair → Ask → Scan
 begin_scan v p ask =
     let main = search_for (main_seek p.standing ask) in
     let read = search_for (read_seek p.standing ask) in
     record {
-      left = if v.ok then (if wants main || wants read then p.queue.held else 0) else 0;
+      left = if is_some v then (if wants main || wants read then p.queue.held else 0) else 0;
       at = p.queue.first;
       standing = p.standing;
       main = main;

@@ -9,22 +9,7 @@ pub fn lent_to(ask: Ask, numbers: usize, bytes: usize) -> usize
     ensures { result ≡ lent_of ask numbers bytes }
 {
     match ask {
-        Ask::Open {
-            settings: _,
-            first: _,
-        } => numbers,
-        Ask::Post { post: _ } => numbers,
-        Ask::Emit { budget: _ } => bytes,
-        Ask::Acknowledge {
-            psn: _,
-            syndrome: _,
-        } => numbers,
-        Ask::Respond {
-            psn: _,
-            opcode: _,
-            length: _,
-        } => numbers,
-        Ask::Tick { elapsed: _ } => numbers,
-        Ask::Close => numbers,
+        Ask::Emit { .. } => bytes,
+        _ => numbers,
     }
 }

@@ -3,7 +3,6 @@
 #![tactic(auto)]
 
 mod asking;
-mod beginning;
 mod planning;
 mod refusing;
 mod scanning;
@@ -12,6 +11,7 @@ mod settling;
 pub use asking::lent_to;
 use outcomes::Found;
 pub use planning::plan_of;
+use refusal::Refusal;
 pub use refusing::refusal;
 use rules::{Answer, Ends, Pair, Post, Reply, Settings, Standing};
 pub use scanning::{begin_scan, scan_step};
@@ -19,7 +19,7 @@ pub use settling::settle;
 use walks::{Emitting, Joining, Leaving};
 
 // What is asked of one pair.
-#[derive(Clone, Copy)]
+#[derive(Clone, Copy, Debug, PartialEq, Eq)]
 pub enum Ask {
     Open { settings: Settings, first: u32 },
     Post { post: Post },
@@ -31,9 +31,8 @@ pub enum Ask {
 }
 
 // The packet that a scan looks for.
-#[derive(Clone, Copy)]
+#[derive(Clone, Copy, Debug, PartialEq, Eq)]
 pub enum Seek {
-    Nothing,
     // A read.
     Read,
     // One that ends after X.
@@ -44,14 +43,15 @@ pub enum Seek {
     Covering(u32),
 }
 
-#[derive(Clone, Copy)]
+// What is sought, if anything, and what has been found.
+#[derive(Clone, Copy, Debug, PartialEq, Eq)]
 pub struct Search {
-    pub seek: Seek,
-    pub found: Found,
+    pub seek: Option<Seek>,
+    pub found: Option<Found>,
 }
 
 // A pair's queue on the way: how many slots are left to look at, the next of them, and the two packets that a call may ask for.
-#[derive(Clone, Copy)]
+#[derive(Clone, Copy, Debug, PartialEq, Eq)]
 pub struct Scan {
     pub left: u32,
     pub at: u32,
@@ -60,19 +60,18 @@ pub struct Scan {
     pub read: Search,
 }
 
-// What a call will answer, but for what the walks count.
-#[derive(Clone, Copy)]
+// What a call that is not refused will answer, but for what the walks count.
+#[derive(Clone, Copy, Debug, PartialEq, Eq)]
 pub enum Told {
-    Refused(u8),
     Answered { answer: Answer, place: u32 },
     First(u32),
     Count,
 }
 
 // What a call is to do: its answer, how the pair will stand (but for X and H after an emission), and the three walks, of which at most one has steps.
-#[derive(Clone, Copy)]
+#[derive(Clone, Copy, Debug, PartialEq, Eq)]
 pub struct Plan {
-    pub told: Told,
+    pub told: Result<Told, Refusal>,
     pub standing: Standing,
     pub leaving: Leaving,
     pub joining: Joining,
@@ -80,9 +79,9 @@ pub struct Plan {
 }
 
 // What is written back, and the answer.
-#[derive(Clone, Copy)]
+#[derive(Clone, Copy, Debug, PartialEq, Eq)]
 pub struct Settled {
     pub pair: Pair,
     pub ends: Ends,
-    pub reply: Reply,
+    pub reply: Result<Reply, Refusal>,
 }

@@ -1,21 +1,22 @@
-// The refusals of a request, in the order of the rules' one list: the first row that holds gives its number. Sums are in 64 bits, so that none runs over.
-ghost use Rattle.std.specs.Prelude.{◌≡◌, not, ◌&&◌, ◌||◌, [], ◌∷◌, ◌+◌, ◌*◌, ◌≤◌, max, ltb, eqb, drop, if◌then◌else◌};
+// The refusals of a request, in the order of the rules' one list: the first row that holds gives its refusal. Sums are in 64 bits, so that none runs over.
+ghost use Rattle.std.specs.Prelude.{◌≡◌, [], ◌∷◌, ◌&&◌, ◌+◌, max, ltb, drop, is_some, Some};
 ghost use Rattle.psn.specs.Psn.{half, distance};
 ghost use Rattle.refusal.specs.Refusals.{◌gives◌, first_given};
-ghost use Rattle.rules.specs.Account.{closed, ready};
-ghost use Rattle.rules.specs.Card.{small, completion_buffer};
-ghost use Rattle.rules.specs.Emission.{record_bytes};
+ghost use Rattle.refusal.specs.declared.Refusal.TheVariants as refusal;
+ghost use Rattle.rules.specs.Card.{small};
 ghost use Rattle.rules.specs.Message.{slots_for, psns_for};
-ghost use Rattle.rules.specs.Ranges.{bad_settings, bad_psn, bad_post, bad_budget, bad_syndrome, bad_response, bad_elapsed, over_ceiling};
-ghost use Rattle.rules.specs.Response.{differ, misfit};
+ghost use Rattle.rules.specs.Ranges.{over_ceiling};
+ghost use Rattle.rules.specs.Refusals.{wrong_state, out_of_range};
+ghost use Rattle.rules.specs.Requests.{needed};
+ghost use Rattle.rules.specs.Response.{misfit};
 ghost use Rattle.message.specs.Capped.{capped, tidy};
+ghost use Rattle.engine.specs.Asked.{asked};
 ghost use Rattle.engine.specs.Refusing.{crowded_by, crowded, unfit_by, refusal_rows, refusal_of};
 
 use crate::{Ask, Scan};
-use audit::Audited;
 use message::{
     Card, State, bad_budget, bad_elapsed, bad_post, bad_psn, bad_response, bad_settings,
-    bad_syndrome, both, either, is_inside, length_at, over_ceiling, psns_for, slots_for, span,
+    bad_syndrome, is_inside, length_at, over_ceiling, psns_for, slots_for, span,
 };
 use outcomes::{Found, at_last};
 use psn::Psn;
@@ -23,22 +24,50 @@ use refusal::Refusal;
 use rules::{Line, Packet, Pair, Post, Settings, Standing};
 use walks::RECORD_BYTES;
 
-fn row(test: bool, number: u8, rest: u8) -> u8
-    ensures { result ≡ (if test then number else rest) }
+// ---- 2, 3, 4
+
+fn wrong_state(ask: Ask, state: u32) -> bool
+    ensures { result ≡ wrong_state (asked ask []) state }
 {
-    if test {
-        return number;
+    match ask {
+        Ask::Open { .. } => state != State::Closed as u32,
+        Ask::Close => state == State::Closed as u32,
+        _ => state != State::Ready as u32,
     }
-    rest
 }
 
-// The rows that any request may meet, and then its own.
-fn first_rows(wrong: bool, bad: bool, short: bool, rest: u8) -> u8
-    ensures { result ≡ (if wrong then 2 else if bad then 3 else if short then 4 else rest) }
+fn out_of_range(ask: Ask) -> bool
+    ensures { result ≡ out_of_range small (asked ask []) }
 {
-    let mut n = row(short, Refusal::BUFFER, rest);
-    n = row(bad, Refusal::RANGE, n);
-    row(wrong, Refusal::STATE, n)
+    match ask {
+        Ask::Open { settings, first } => bad_settings(settings) || bad_psn(first),
+        Ask::Post { post } => bad_post(post),
+        Ask::Emit { budget } => bad_budget(budget),
+        Ask::Acknowledge { psn, syndrome } => bad_psn(psn) || bad_syndrome(syndrome),
+        Ask::Respond { psn, opcode, .. } => bad_psn(psn) || bad_response(opcode),
+        Ask::Tick { elapsed } => bad_elapsed(elapsed),
+        Ask::Close => false,
+    }
+}
+
+// How long the lent buffer must be.
+fn needed(ask: Ask) -> usize
+    ensures { result ≡ needed small (asked ask []) }
+{
+    match ask {
+        Ask::Open { .. } | Ask::Post { .. } => 0,
+        Ask::Emit { budget } => RECORD_BYTES * budget as usize,
+        _ => Card::NUMBERS,
+    }
+}
+
+// ---- 7
+
+// N would come too far from U.
+fn too_far(s: Settings, l: Line, m: Post) -> bool
+    ensures { result ≡ ltb half (distance l.u l.n + psns_for (capped s) m) }
+{
+    u64::from(Psn::HALF) < u64::from(Psn::distance(l.u, l.n)) + u64::from(psns_for(s, m))
 }
 
 // ---- 8
@@ -46,197 +75,101 @@ fn first_rows(wrong: bool, bad: bool, short: bool, rest: u8) -> u8
 fn crowded_by(claimed: u32, share: u32) -> bool
     ensures { result ≡ crowded_by claimed share }
 {
-    (Card::SLOTS as u64) < claimed as u64 + share as u64
-}
-
-// The larger of two numbers of at most 33 bits.
-fn larger(a: u64, b: u64) -> u64
-    requires { (a ≤ 8589934592) × (b ≤ 8589934592) }
-    ensures { (result ≡ max a b) × (result ≤ 8589934592) }
-{
-    if a <= b {
-        return b;
-    }
-    a
+    u64::from(Card::SLOTS) < u64::from(claimed) + u64::from(share)
 }
 
 // The sum with the pair's claim of then in place of the one of now.
 fn over_pool(claimed: u32, share: u32, held: u32, new: u32) -> bool
     ensures { result ≡ ltb (small.slots + max share held) (claimed + max share (held + new)) }
 {
-    let now = larger(share as u64, held as u64);
-    let then = larger(share as u64, held as u64 + new as u64);
-    Card::SLOTS as u64 + now < claimed as u64 + then
+    let now = u64::from(share.max(held));
+    let then = u64::from(share).max(u64::from(held) + u64::from(new));
+    u64::from(Card::SLOTS) + now < u64::from(claimed) + then
 }
 
+#[tactic(auto, unfolding(message::specs::Capped::capped))]
 fn crowded(claimed: u32, s: Settings, held: u32, new: u32) -> bool
     ensures { result ≡ crowded claimed (capped s) held new }
 {
-    let over = over_pool(claimed, s.share, held, new);
-    either((s.ceiling as u64) < held as u64 + new as u64, over)
+    u64::from(s.ceiling) < u64::from(held) + u64::from(new)
+        || over_pool(claimed, s.share, held, new)
 }
 
 // ---- 9
 
-fn differ(a: bool, b: bool) -> bool
-    ensures { result ≡ differ a b }
-{
-    if a {
-        return !b;
-    }
-    b
-}
-
+// PSN, opcode and length stay three: they are the call's three numbers, as the definitions and C take them.
 fn misfit(s: Settings, r: u32, opcode: u32, len: u32, p: Packet) -> bool
     ensures { result ≡ misfit (capped s) r opcode len p }
 {
-    let k = Psn::distance(p.psn, r);
-    let n = span(s, p);
-    let due = length_at(s, p.length, n, k);
-    let last = at_last(s, r, p);
-    let wrong = differ(15 <= opcode, last);
-    either(len != due, wrong)
+    let due = length_at(s, p.length, span(s, p), Psn::distance(p.psn, r));
+    len != due || (15 <= opcode) != at_last(s, r, p)
 }
 
-fn unfit_by(t: Standing, f: Found, r: u32, opcode: u32, len: u32) -> bool
+fn unfit_by(t: Standing, f: Option<Found>, r: u32, opcode: u32, len: u32) -> bool
     ensures { result ≡ unfit_by (tidy t) f r opcode len }
 {
-    let open = is_inside(t.line, r);
-    let wrong = misfit(t.settings, r, opcode, len, f.packet);
-    let unfit = either(f.left == 0, wrong);
-    both(open, unfit)
+    is_inside(t.line, r) && f.is_none_or(|f| misfit(t.settings, r, opcode, len, f.packet))
 }
 
-// ---- the rows of each request
+// ---- the list
 
-fn open_rows(claimed: u32, state: u32, s: Settings, first: u32) -> u8
-    ensures { result ≡ first_given (not (eqb state closed) gives 2 ∷ (bad_settings small s || bad_psn first) gives 3 ∷ crowded_by claimed s.share gives 8 ∷ []) }
-{
-    let settings = bad_settings(s);
-    let psn = bad_psn(first);
-    let bad = either(settings, psn);
-    let crowd = crowded_by(claimed, s.share);
-    let rest = row(crowd, Refusal::ROOM, 0);
-    first_rows(state != State::CLOSED, bad, false, rest)
-}
-
-// N would come too far from U.
-fn too_far(s: Settings, l: Line, m: Post) -> bool
-    ensures { result ≡ ltb half (distance l.u l.n + psns_for (capped s) m) }
-{
-    let open = Psn::distance(l.u, l.n);
-    let new = psns_for(s, m);
-    (Psn::HALF as u64) < open as u64 + new as u64
-}
-
-fn no_room(claimed: u32, s: Settings, held: u32, m: Post) -> bool
-    ensures { result ≡ crowded claimed (capped s) held (slots_for (capped s) m) }
-{
-    let new = slots_for(s, m);
-    crowded(claimed, s, held, new)
-}
-
-fn post_rows(claimed: u32, t: Standing, held: u32, reads: u32, m: Post) -> u8
+fn post_rows(claimed: u32, p: Pair, f: Option<Found>, m: Post) -> Option<Refusal>
     ensures { result ≡ first_given (
-        not (eqb t.state ready) gives 2
-        ∷ bad_post m gives 3
-        ∷ over_ceiling (capped t.settings) m gives 5
-        ∷ (m.fenced && ltb 0 reads) gives 6
-        ∷ ltb half (distance t.line.u t.line.n + psns_for (capped t.settings) m) gives 7
-        ∷ crowded claimed (capped t.settings) held (slots_for (capped t.settings) m) gives 8
+        over_ceiling (tidy p.standing).settings m gives refusal.Ceiling
+        ∷ (m.fenced && is_some f) gives refusal.Fence
+        ∷ ltb half (distance p.standing.line.u p.standing.line.n + psns_for (tidy p.standing).settings m) gives refusal.Distance
+        ∷ crowded claimed (tidy p.standing).settings p.queue.held (slots_for (tidy p.standing).settings m) gives refusal.Room
         ∷ []) }
-{
-    let s = t.settings;
-    let bad = bad_post(m);
-    let over = over_ceiling(s, m);
-    let fence = both(m.fenced, 0 < reads);
-    let far = too_far(s, t.line, m);
-    let crowd = no_room(claimed, s, held, m);
-    let mut rest = row(crowd, Refusal::ROOM, 0);
-    rest = row(far, Refusal::DISTANCE, rest);
-    rest = row(fence, Refusal::FENCE, rest);
-    rest = row(over, Refusal::CEILING, rest);
-    first_rows(t.state != State::READY, bad, false, rest)
-}
-
-fn emit_rows(state: u32, budget: u32, room: usize) -> u8
-    ensures { result ≡ first_given (not (eqb state ready) gives 2 ∷ bad_budget budget gives 3 ∷ ltb room (record_bytes * budget) gives 4 ∷ []) }
-{
-    let bad = bad_budget(budget);
-    first_rows(
-        state != State::READY,
-        bad,
-        room < RECORD_BYTES * budget as usize,
-        0,
-    )
-}
-
-fn acknowledge_rows(state: u32, r: u32, syndrome: u32, room: usize) -> u8
-    ensures { result ≡ first_given (not (eqb state ready) gives 2 ∷ (bad_psn r || bad_syndrome syndrome) gives 3 ∷ ltb room (completion_buffer small) gives 4 ∷ []) }
-{
-    let psn = bad_psn(r);
-    let kind = bad_syndrome(syndrome);
-    let bad = either(psn, kind);
-    first_rows(state != State::READY, bad, room < Card::NUMBERS, 0)
-}
-
-fn respond_rows(t: Standing, f: Found, r: u32, opcode: u32, len: u32, room: usize) -> u8
-    ensures { result ≡ first_given (
-        not (eqb t.state ready) gives 2
-        ∷ (bad_psn r || bad_response opcode) gives 3
-        ∷ ltb room (completion_buffer small) gives 4
-        ∷ unfit_by (tidy t) f r opcode len gives 9
-        ∷ []) }
-{
-    let psn = bad_psn(r);
-    let kind = bad_response(opcode);
-    let bad = either(psn, kind);
-    let unfit = unfit_by(t, f, r, opcode, len);
-    let rest = row(unfit, Refusal::RESPONSE, 0);
-    first_rows(t.state != State::READY, bad, room < Card::NUMBERS, rest)
-}
-
-fn tick_rows(state: u32, elapsed: u64, room: usize) -> u8
-    ensures { result ≡ first_given (not (eqb state ready) gives 2 ∷ bad_elapsed elapsed gives 3 ∷ ltb room (completion_buffer small) gives 4 ∷ []) }
-{
-    let bad = bad_elapsed(elapsed);
-    first_rows(state != State::READY, bad, room < Card::NUMBERS, 0)
-}
-
-fn close_rows(state: u32, room: usize) -> u8
-    ensures { result ≡ first_given (eqb state closed gives 2 ∷ ltb room (completion_buffer small) gives 4 ∷ []) }
-{
-    first_rows(state == State::CLOSED, false, room < Card::NUMBERS, 0)
-}
-
-// The rows after 15 and 1.
-fn request_rows(v: Audited, p: Pair, c: Scan, ask: Ask, room: usize) -> u8
-    ensures { result ≡ first_given (drop 2 (refusal_rows v 0 p c ask room)) }
 {
     let t = p.standing;
-    let q = p.queue;
-    let main = c.main;
-    let seen = main.found;
-    let read = c.read;
+    let s = t.settings;
+    if over_ceiling(s, m) {
+        Some(Refusal::Ceiling)
+    } else if m.fenced && f.is_some() {
+        Some(Refusal::Fence)
+    } else if too_far(s, t.line, m) {
+        Some(Refusal::Distance)
+    } else if crowded(claimed, s, p.queue.held, slots_for(s, m)) {
+        Some(Refusal::Room)
+    } else {
+        None
+    }
+}
+
+// What one kind of request alone can meet: 5 to 9.
+fn own_rows(claimed: u32, p: Pair, c: Scan, ask: Ask) -> Option<Refusal>
+    ensures { result ≡ first_given (drop 5 (refusal_rows (Some claimed) 0 p c ask 0)) }
+{
     match ask {
-        Ask::Open { settings, first } => open_rows(v.claimed, t.state, settings, first),
-        Ask::Post { post } => post_rows(v.claimed, t, q.held, seen.left, post),
-        Ask::Emit { budget } => emit_rows(t.state, budget, room),
-        Ask::Acknowledge { psn, syndrome } => acknowledge_rows(t.state, psn, syndrome, room),
+        Ask::Open { settings, .. } => {
+            crowded_by(claimed, settings.share).then_some(Refusal::Room)
+        }
+        Ask::Post { post } => post_rows(claimed, p, c.main.found, post),
         Ask::Respond {
             psn,
             opcode,
             length,
-        } => respond_rows(t, read.found, psn, opcode, length, room),
-        Ask::Tick { elapsed } => tick_rows(t.state, elapsed, room),
-        Ask::Close => close_rows(t.state, room),
+        } => unfit_by(p.standing, c.read.found, psn, opcode, length).then_some(Refusal::Response),
+        _ => None,
     }
 }
 
-pub fn refusal(v: Audited, at: u32, p: Pair, c: Scan, ask: Ask, room: usize) -> u8
+#[tactic(auto, unfolding(crate::specs::Refusing::refusal_of))]
+pub fn refusal(v: Option<u32>, at: u32, p: Pair, c: Scan, ask: Ask, room: usize) -> Option<Refusal>
     ensures { result ≡ refusal_of v at p c ask room }
 {
-    let rest = request_rows(v, p, c, ask, room);
-    let n = row(Card::PAIRS <= at, Refusal::PAIR, rest);
-    row(!v.ok, Refusal::AUDIT, n)
+    let Some(claimed) = v else {
+        return Some(Refusal::Audit);
+    };
+    if Card::PAIRS <= at {
+        Some(Refusal::Pair)
+    } else if wrong_state(ask, p.standing.state) {
+        Some(Refusal::State)
+    } else if out_of_range(ask) {
+        Some(Refusal::Range)
+    } else if room < needed(ask) {
+        Some(Refusal::Buffer)
+    } else {
+        own_rows(claimed, p, c, ask)
+    }
 }

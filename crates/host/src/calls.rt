@@ -1,4 +1,4 @@
-// The calls, with answers and posts as flat records of numbers.
+// The calls, with answers and posts as flat records of numbers. One function for each of C's nine, with C's arguments: C has no generics.
 ghost use Rattle.std.specs.Prelude.{◌≡◌};
 ghost use Rattle.rules.specs.Card.{small};
 ghost use Rattle.rules.specs.Requests.{opening, posting, emitting, acknowledging, responding, ticking, closing, starting, on};
@@ -6,24 +6,22 @@ ghost use Rattle.rules.specs.Passes.Tables.{passes};
 ghost use Rattle.card.specs.Lent.{lent};
 ghost use Rattle.host.specs.Flat.{post_of, number_if, Says, Fills};
 
-use crate::flat::{number_if, post_of, said_of};
+use crate::flat::number_if;
 use crate::{Posted, Said};
-use rules::{Ends, Pair, Settings, Slot};
+use rules::{Ends, Pair, Post, Settings, Slot};
 
 pub fn kamusseori_audit(pairs: &mut [Pair], ends: &mut Ends, slots: &mut [Slot]) -> u32
     ensures { (result ≡ number_if (passes small (lent pairs.old ends.old slots.old)))
         × ((pairs.new ≡ pairs.old) × ((ends.new ≡ ends.old) × (slots.new ≡ slots.old))) }
 {
-    let passed = card::audit(pairs, ends, slots);
-    number_if(passed)
+    number_if(card::audit(pairs, ends, slots))
 }
 
 pub fn kamusseori_fresh(pairs: &mut [Pair], ends: &mut Ends, slots: &mut [Slot]) -> Said
     ensures { Says starting (lent pairs.old ends.old slots.old)
         result pairs.new ends.new slots.new }
 {
-    let reply = card::fresh_start(pairs, ends, slots);
-    said_of(reply)
+    Said::from(card::fresh_start(pairs, ends, slots))
 }
 
 pub fn kamusseori_open(
@@ -37,8 +35,7 @@ pub fn kamusseori_open(
     ensures { Says (on pair (opening settings first)) (lent pairs.old ends.old slots.old)
         result pairs.new ends.new slots.new }
 {
-    let reply = card::open_pair(pairs, ends, slots, pair, settings, first);
-    said_of(reply)
+    Said::from(card::open_pair(pairs, ends, slots, pair, settings, first))
 }
 
 pub fn kamusseori_post(
@@ -51,9 +48,7 @@ pub fn kamusseori_post(
     ensures { Says (on pair (posting (post_of post))) (lent pairs.old ends.old slots.old)
         result pairs.new ends.new slots.new }
 {
-    let m = post_of(post);
-    let reply = card::post_message(pairs, ends, slots, pair, m);
-    said_of(reply)
+    Said::from(card::post_message(pairs, ends, slots, pair, Post::from(post)))
 }
 
 pub fn kamusseori_emit(
@@ -67,8 +62,7 @@ pub fn kamusseori_emit(
     ensures { Fills (on pair (emitting budget out.old)) (lent pairs.old ends.old slots.old)
         result pairs.new ends.new slots.new out.new }
 {
-    let reply = card::emit_packets(pairs, ends, slots, out, pair, budget);
-    said_of(reply)
+    Said::from(card::emit_packets(pairs, ends, slots, out, pair, budget))
 }
 
 pub fn kamusseori_acknowledge(
@@ -83,8 +77,7 @@ pub fn kamusseori_acknowledge(
     ensures { Fills (on pair (acknowledging psn syndrome done.old)) (lent pairs.old ends.old slots.old)
         result pairs.new ends.new slots.new done.new }
 {
-    let reply = card::acknowledge(pairs, ends, slots, done, pair, psn, syndrome);
-    said_of(reply)
+    Said::from(card::acknowledge(pairs, ends, slots, done, pair, psn, syndrome))
 }
 
 pub fn kamusseori_response(
@@ -100,8 +93,7 @@ pub fn kamusseori_response(
     ensures { Fills (on pair (responding psn opcode length done.old)) (lent pairs.old ends.old slots.old)
         result pairs.new ends.new slots.new done.new }
 {
-    let reply = card::read_response(pairs, ends, slots, done, pair, psn, opcode, length);
-    said_of(reply)
+    Said::from(card::read_response(pairs, ends, slots, done, pair, psn, opcode, length))
 }
 
 pub fn kamusseori_timer(
@@ -115,8 +107,7 @@ pub fn kamusseori_timer(
     ensures { Fills (on pair (ticking elapsed done.old)) (lent pairs.old ends.old slots.old)
         result pairs.new ends.new slots.new done.new }
 {
-    let reply = card::timer_step(pairs, ends, slots, done, pair, elapsed);
-    said_of(reply)
+    Said::from(card::timer_step(pairs, ends, slots, done, pair, elapsed))
 }
 
 pub fn kamusseori_close(
@@ -129,6 +120,5 @@ pub fn kamusseori_close(
     ensures { Fills (on pair (closing done.old)) (lent pairs.old ends.old slots.old)
         result pairs.new ends.new slots.new done.new }
 {
-    let reply = card::close_pair(pairs, ends, slots, done, pair);
-    said_of(reply)
+    Said::from(card::close_pair(pairs, ends, slots, done, pair))
 }

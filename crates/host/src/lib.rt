@@ -11,8 +11,9 @@ pub use calls::{
 
 // An answer: the refusal's number or 0; the word; messages completed, a post's first PSN or an emission's count; a response's place.
 #[repr(C)]
-#[derive(Clone, Copy)]
+#[derive(Clone, Copy, Debug, Default, PartialEq, Eq)]
 pub struct Said {
+    // 0 for none: C has no Result.
     pub refusal: u32,
     pub answer: u32,
     pub number: u32,
@@ -21,7 +22,7 @@ pub struct Said {
 
 // A post as C has it: its two tests are numbers, since a C host may lend any.
 #[repr(C)]
-#[derive(Clone, Copy)]
+#[derive(Clone, Copy, Debug, Default, PartialEq, Eq)]
 pub struct Posted {
     pub kind: u32,
     pub immediate: u32,

@@ -1,4 +1,4 @@
-// The archive for a driver in C: host's calls as C's functions, each with host's clauses. A slice is a pointer and a count in C.
+// The archive for a driver in C: host's calls as C's functions, each with host's clauses, one for each name that the header has. A slice is a pointer and a count in C.
 #![tactic(auto)]
 
 ghost use Rattle.std.specs.Prelude.{◌≡◌};

@@ -2,38 +2,25 @@
 ghost use Rattle.std.specs.Prelude.{◌≡◌};
 ghost use Rattle.message.specs.Capped.{capped, tidy};
 
-use crate::straight::smaller;
 use rules::{Settings, Standing};
 
+#[tactic(auto, unfolding(crate::specs::Capped::capped))]
 fn capped(s: Settings) -> Settings
     ensures { result ≡ capped s }
 {
-    let pkey = s.pkey % 65_536;
-    let pmtu = smaller(s.pmtu, 5);
-    let timeout = smaller(s.timeout, 31);
     Settings {
-        far: s.far,
-        pkey,
-        pmtu,
-        share: s.share,
-        ceiling: s.ceiling,
-        retry: s.retry,
-        rnr: s.rnr,
-        timeout,
+        pkey: s.pkey % 65_536,
+        pmtu: s.pmtu.min(5),
+        timeout: s.timeout.min(31),
+        ..s
     }
 }
 
 pub fn tidied(t: Standing) -> Standing
     ensures { result ≡ tidy t }
 {
-    let given = t.settings;
-    let settings = capped(given);
-    let line = t.line;
-    let clock = t.clock;
     Standing {
-        state: t.state,
-        settings,
-        line,
-        clock,
+        settings: capped(t.settings),
+        ..t
     }
 }

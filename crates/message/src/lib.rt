@@ -7,10 +7,10 @@ mod packets;
 mod places;
 mod ranges;
 mod sizes;
-mod straight;
+mod states;
 
 pub use capping::tidied;
-pub use opcodes::{has_immediate, has_reth, opcode_at};
+pub use opcodes::opcode_at;
 pub use packets::{
     READ_REQUEST, after_x, covers, ends, ends_message, is_read, passed_by, span, stays, unanswered,
 };
@@ -20,30 +20,19 @@ pub use ranges::{
     is_inside, over_ceiling,
 };
 pub use sizes::{length_at, mtu, packets_for, psns_for, slots_for, timeout};
-pub use straight::{both, either, less, less_wide, pick, smaller, when, when_wide};
+pub use states::{State, UnknownState};
+pub use wire::{has_immediate, has_reth};
 
 // The card's sizes: the definitions' `small`.
-#[derive(Clone, Copy)]
+#[derive(Clone, Copy, Debug, PartialEq, Eq)]
 pub struct Card;
 
 impl Card {
     pub const PAIRS: u32 = 64;
 
     pub const SLOTS: u32 = 256;
-    // Stands for no slot.
+    // Stands for no slot, in the links that a host lends and in the walks that write them: a number, as the C interface has it.
     pub const NONE: u32 = 256;
     // Of a completion buffer: a ticket and a status for each slot.
     pub const NUMBERS: usize = 512;
-}
-
-// A pair's state, as its record has it.
-#[derive(Clone, Copy)]
-pub struct State;
-
-impl State {
-    pub const CLOSED: u32 = 0;
-
-    pub const READY: u32 = 1;
-
-    pub const ENDED: u32 = 2;
 }

@@ -8,23 +8,23 @@ ghost use Rattle.message.specs.Capped.{capped};
 
 use crate::Card;
 use crate::sizes::{asks_read, slots_for};
-use crate::straight::{both, either};
 use psn::Psn;
 use rules::{Line, Post, Settings};
 
+#[tactic(auto, unfolding(rules::specs::Ranges::bad_settings))]
 pub fn bad_settings(s: Settings) -> bool
     ensures { result ≡ bad_settings small s }
 {
-    let mut bad = 31 < s.timeout;
-    bad = either(7 < s.rnr, bad);
-    bad = either(7 < s.retry, bad);
-    bad = either(Card::SLOTS < s.ceiling, bad);
-    bad = either(s.ceiling < s.share, bad);
-    bad = either(s.share < 1, bad);
-    bad = either(5 < s.pmtu, bad);
-    bad = either(s.pmtu < 1, bad);
-    bad = either(65_536 <= s.pkey, bad);
-    either(Psn::COUNT <= s.far, bad)
+    Psn::COUNT <= s.far
+        || 65_536 <= s.pkey
+        || s.pmtu < 1
+        || 5 < s.pmtu
+        || s.share < 1
+        || s.ceiling < s.share
+        || Card::SLOTS < s.ceiling
+        || 7 < s.retry
+        || 7 < s.rnr
+        || 31 < s.timeout
 }
 
 pub fn bad_psn(a: u32) -> bool
@@ -33,51 +33,37 @@ pub fn bad_psn(a: u32) -> bool
     Psn::COUNT <= a
 }
 
-fn read_immediate(m: Post) -> bool
-    ensures { result ≡ (asks_read m && m.immediate) }
-{
-    let read = asks_read(m);
-    both(read, m.immediate)
-}
-
 // Bytes of the card's memory past 2^32.
 fn past_memory(offset: u64, len: u32) -> bool
     ensures { result ≡ ltb (2 ^ 32) (offset + len) }
 {
-    4_294_967_296 - (len as u64) < offset
+    4_294_967_296 - u64::from(len) < offset
 }
 
 fn past_addresses(address: u64, len: u32) -> bool
     requires { 0 < len }
     ensures { result ≡ ltb (2 ^ 64) (address + len) }
 {
-    18_446_744_073_709_551_615 - (len as u64 - 1) < address
+    u64::MAX - (u64::from(len) - 1) < address
 }
 
 // A Write or read whose bytes run past 2^64.
 fn too_far(m: Post) -> bool
     ensures { result ≡ (ltb 0 m.kind && ltb 0 m.length && ltb (2 ^ 64) (m.address + m.length)) }
 {
-    if m.kind == 0 {
-        return false;
-    }
-    if m.length == 0 {
-        return false;
-    }
-    past_addresses(m.address, m.length)
+    0 < m.kind && 0 < m.length && past_addresses(m.address, m.length)
 }
 
+#[tactic(auto, unfolding(rules::specs::Ranges::bad_post))]
 pub fn bad_post(m: Post) -> bool
     ensures { result ≡ bad_post m }
 {
-    let wrong = read_immediate(m);
-    let over = past_memory(m.offset, m.length);
-    let mut bad = too_far(m);
-    bad = either(over, bad);
-    bad = either(4_294_967_296 <= m.offset, bad);
-    bad = either(2_147_483_648 <= m.length, bad);
-    bad = either(wrong, bad);
-    either(2 < m.kind, bad)
+    2 < m.kind
+        || (asks_read(m) && m.immediate)
+        || 2_147_483_648 <= m.length
+        || 4_294_967_296 <= m.offset
+        || past_memory(m.offset, m.length)
+        || too_far(m)
 }
 
 const LARGEST_BUDGET: u32 = 64;
@@ -85,24 +71,24 @@ const LARGEST_BUDGET: u32 = 64;
 pub fn bad_budget(n: u32) -> bool
     ensures { result ≡ bad_budget n }
 {
-    either(n < 1, LARGEST_BUDGET < n)
+    n < 1 || LARGEST_BUDGET < n
 }
 
 // A syndrome is an ACK, an RNR or a NAK of codes 0 to 3.
 pub fn bad_syndrome(y: u32) -> bool
     ensures { result ≡ bad_syndrome y }
 {
-    let top = y / 32;
-    let nak = both(top == 3, y % 32 <= 3);
-    let other = either(top == 0, top == 1);
-    let good = either(other, nak);
-    !good
+    match y / 32 {
+        0 | 1 => false,
+        3 => 3 < y % 32,
+        _ => true,
+    }
 }
 
 pub fn bad_response(op: u32) -> bool
     ensures { result ≡ bad_response op }
 {
-    either(op < 13, 16 < op)
+    !matches!(op, 13..=16)
 }
 
 pub fn bad_elapsed(e: u64) -> bool
@@ -112,18 +98,16 @@ pub fn bad_elapsed(e: u64) -> bool
 }
 
 // 5: a post of more slots than the pair's ceiling.
+#[tactic(auto, unfolding(crate::specs::Capped::capped))]
 pub fn over_ceiling(s: Settings, m: Post) -> bool
     ensures { result ≡ over_ceiling (capped s) m }
 {
-    let n = slots_for(s, m);
-    s.ceiling < n
+    s.ceiling < slots_for(s, m)
 }
 
 // R is unacknowledged and has been emitted: from U up to H.
 pub fn is_inside(line: Line, r: u32) -> bool
     ensures { result ≡ ltb (distance line.u r) (distance line.u line.h) }
 {
-    let at = Psn::distance(line.u, r);
-    let open = Psn::distance(line.u, line.h);
-    at < open
+    Psn::distance(line.u, r) < Psn::distance(line.u, line.h)
 }

@@ -4,42 +4,40 @@ ghost use Rattle.rules.specs.Message.{pmtu, packets_for, asks_read, psns_for, sl
 ghost use Rattle.rules.specs.Timer.{timeout_of};
 ghost use Rattle.message.specs.Capped.{capped};
 
-use crate::straight::smaller;
 use rules::{Post, Settings};
 
 // The bytes that a PMTU code stands for.
 pub fn mtu(s: Settings) -> u32
     ensures { (result ≡ pmtu (capped s)) × (128 ≤ result) × (result ≤ 4096) }
 {
-    let code = smaller(s.pmtu, 5);
-    128 << code
+    128 << s.pmtu.min(5)
 }
 
 // The PMTU is 2 to this.
+#[tactic(auto, unfolding(crate::specs::Capped::capped))]
 fn width(s: Settings) -> u32
     ensures { (result ≡ 7 + (capped s).pmtu) × (result ≤ 12) }
 {
-    let code = smaller(s.pmtu, 5);
-    7 + code
+    7 + s.pmtu.min(5)
 }
 
 // Rounded up, by a shift: a division would cost more than the rest of what looks at a packet.
+// That a count is 1 to 2^25 is said by each that tells one: a type of its own would be taken apart at every sum.
 fn parts(mtu: u32, width: u32, len: u32) -> u32
     requires { (mtu ≡ 2 ^ width) × (128 ≤ mtu) × (mtu ≤ 4096) × (width ≤ 12) }
     ensures { (result ≡ packets_for mtu len) × (1 ≤ result) × (result ≤ 33554432) }
 {
     if len == 0 {
-        return 1;
+        1
+    } else {
+        ((u64::from(len) + (u64::from(mtu) - 1)) >> width) as u32
     }
-    ((len as u64 + (mtu as u64 - 1)) >> width) as u32
 }
 
 pub fn packets_for(s: Settings, len: u32) -> u32
     ensures { (result ≡ packets_for (pmtu (capped s)) len) × (1 ≤ result) × (result ≤ 33554432) }
 {
-    let size = mtu(s);
-    let by = width(s);
-    parts(size, by, len)
+    parts(mtu(s), width(s), len)
 }
 
 pub(crate) fn asks_read(m: Post) -> bool
@@ -57,25 +55,7 @@ pub fn psns_for(s: Settings, m: Post) -> u32
 pub fn slots_for(s: Settings, m: Post) -> u32
     ensures { (result ≡ slots_for (capped s) m) × (1 ≤ result) × (result ≤ 33554432) }
 {
-    let read = asks_read(m);
-    if read {
-        return 1;
-    }
-    psns_for(s, m)
-}
-
-fn length_of(mtu: u32, len: u32, n: u32, i: u32) -> u32
-    requires { mtu ≤ 4096 }
-    ensures { result ≡ length_at mtu len n i }
-{
-    if i as u64 + 1 == n as u64 {
-        let front = i as u64 * mtu as u64;
-        if len as u64 <= front {
-            return 0;
-        }
-        return (len as u64 - front) as u32;
-    }
-    mtu
+    if asks_read(m) { 1 } else { psns_for(s, m) }
 }
 
 // The bytes of the packet at place i of n.
@@ -83,13 +63,17 @@ pub fn length_at(s: Settings, len: u32, n: u32, i: u32) -> u32
     ensures { result ≡ length_at (pmtu (capped s)) len n i }
 {
     let size = mtu(s);
-    length_of(size, len, n, i)
+    if u64::from(i) + 1 == u64::from(n) {
+        let ahead = u64::from(i) * u64::from(size);
+        u64::from(len).saturating_sub(ahead) as u32
+    } else {
+        size
+    }
 }
 
 // In ns.
 pub fn timeout(s: Settings) -> u64
     ensures { (result ≡ timeout_of (capped s)) × (result ≤ 2 ^ 43) }
 {
-    let code = smaller(s.timeout, 31);
-    4096 << code
+    4096 << s.timeout.min(31)
 }

@@ -8,6 +8,10 @@ use native.Mathlib.Omega.{arith}
 use lib.Dec.{ltb, leb, eqb}
 use lib.ListN.{get_or}
 use borrow.Author.Tests.{ltb-true, ltb-false, le-ltb}
+use Rattle.std.specs.Prelude.{Option, None, Some}
+use Rattle.refusal.specs.declared.Refusal.{Refusal}
+use Rattle.refusal.specs.declared.Refusal.TheVariants.{Pair, State, Range}
+use Rattle.refusal.specs.Numbers.{number}
 use Rattle.refusal.specs.Choice.{any_of, Each}
 use Rattle.refusal.specs.Refusals.{first_given}
 use Rattle.refusal.proofs.Cases.{by-test, or_left, or_right}
@@ -17,15 +21,16 @@ use Rattle.rules.specs.Card.{small}
 use Rattle.rules.specs.Account.{Side}
 use Rattle.rules.specs.Ranges.{settings_faults, bad_settings, bad_psn, post_faults, bad_post, bad_budget, bad_syndrome, bad_response}
 use Rattle.rules.specs.Refusals.{side_at, wrong_state, out_of_range, refusals}
+use Rattle.engine.specs.declared.Ask as engine
 use Rattle.engine.specs.declared.Ask.TheVariants as asks
 use Rattle.engine.specs.Asked.{asked}
 use Rattle.orders.specs.Ordered.{largest, cut, settings_of, post_of, post_wide, ask_of}
 use Rattle.orders.specs.Widths.{written, too_wide}
 
-abbrev None : List Bool → Type 0
-None ts = Each (λ (t : Bool). t ≡ false) ts
+abbrev AllFalse : List Bool → Type 0
+AllFalse ts = Each (λ (t : Bool). t ≡ false) ts
 
-none : (ts : List Bool) → any_of ts ≡ false → None ts
+none : (ts : List Bool) → any_of ts ≡ false → AllFalse ts
 none [] e = tt
 none (t ∷ ts) e = (or_left t (any_of ts) e, none ts (or_right t (any_of ts) e))
 
@@ -39,9 +44,10 @@ value_same true n h = cut-same n h
 value_same false n h = refl
 
 -- a call is just its numbers
-pub narrow-written : (w : Ask) (a : List ℕ) → None (too_wide w a) → ask_of w a ≡ written w a
+pub narrow-written : (w : Ask) (a : List ℕ) → AllFalse (too_wide w a) → ask_of w a ≡ written w a
 narrow-written Open a f =
-    λ i. asks.Open
+    λ i. Some
+    (asks.Open
     record {
       far = cut-same (get_or a 1 0) f.0 i;
       pkey = cut-same (get_or a 3 0) f.1.1.0 i;
@@ -52,11 +58,12 @@ narrow-written Open a f =
       rnr = cut-same (get_or a 8 0) f.1.1.1.1.1.1.1.0 i;
       timeout = cut-same (get_or a 9 0) f.1.1.1.1.1.1.1.1.0 i;
     }
-    (cut-same (get_or a 2 0) f.1.0 i)
+    (cut-same (get_or a 2 0) f.1.0 i))
 narrow-written Post a f =
     let p = none (ltb largest (get_or a 1 0) ∷ ltb 1 (get_or a 3 0) ∷ (eqb (get_or a 3 0) 1 && ltb largest (get_or a 4 0)) ∷ ltb 1 (get_or a 5 0) ∷ ltb largest (get_or a 9 0) ∷ []) f.0 in
     let kind : (post_of a).kind ≡ get_or a 2 0 = rw f.0 (cut-same (get_or a 2 0) f.1.0) in
-    λ i. asks.Post
+    λ i. Some
+    (asks.Post
     record {
       kind = kind i;
       immediate = eqb (get_or a 3 0) 1;
@@ -67,12 +74,12 @@ narrow-written Post a f =
       address = get_or a 8 0;
       key = cut-same (get_or a 9 0) p.1.1.1.1.0 i;
       value = value_same (eqb (get_or a 3 0) 1) (get_or a 4 0) p.1.1.0 i;
-    }
-narrow-written Emit a f = ap asks.Emit (cut-same (get_or a 1 0) f.0)
-narrow-written Ack a f = λ i. asks.Acknowledge (cut-same (get_or a 1 0) f.0 i) (cut-same (get_or a 2 0) f.1.0 i)
+    })
+narrow-written Emit a f = ap (λ (n : ℕ). Some (asks.Emit n)) (cut-same (get_or a 1 0) f.0)
+narrow-written Ack a f = λ i. Some (asks.Acknowledge (cut-same (get_or a 1 0) f.0 i) (cut-same (get_or a 2 0) f.1.0 i))
 narrow-written Response a f =
     let psn : cond (ltb largest (get_or a 3 0)) largest (cut (get_or a 1 0)) ≡ get_or a 1 0 = rw f.1.1.0 (cut-same (get_or a 1 0) f.0) in
-    λ i. asks.Respond (psn i) (cut-same (get_or a 2 0) f.1.0 i) (cut-same (get_or a 3 0) f.1.1.0 i)
+    λ i. Some (asks.Respond (psn i) (cut-same (get_or a 2 0) f.1.0 i) (cut-same (get_or a 3 0) f.1.1.0 i))
 narrow-written Timer a f = refl
 narrow-written Close a f = refl
 narrow-written Nothing a f = refl
@@ -100,8 +107,13 @@ both_by bad false n full h = (refl, narrow-by bad n full h)
 share-by : (share ceiling : ℕ) → ltb (cut ceiling) (cut share) ≡ false → ltb 256 (cut ceiling) ≡ false → ltb largest share ≡ false
 share-by share ceiling h k = le-ltb largest share (omega (arith, ltb-false (cut ceiling) (cut share) h, ltb-false 256 (cut ceiling) k))
 
+-- is a call out of its ranges?
+abbrev ranged : Option engine.Ask → List ℕ → Bool
+ranged None b = false
+ranged (Some q) b = out_of_range small (asked q b)
+
 -- a call in its ranges has no number that is too wide
-pub in-range-narrow : (w : Ask) (a b : List ℕ) → out_of_range small (asked (ask_of w a) b) ≡ false → None (too_wide w a)
+pub in-range-narrow : (w : Ask) (a b : List ℕ) → ranged (ask_of w a) b ≡ false → AllFalse (too_wide w a)
 unfolding bad_settings bad_post
 in-range-narrow Open a b h =
     let f = none (settings_faults small (settings_of a)) (or_left (any_of (settings_faults small (settings_of a))) (bad_psn (cut (get_or a 2 0))) h) in
@@ -157,20 +169,23 @@ in-range-narrow Free a b h = tt
 in-range-narrow Write a b h = tt
 in-range-narrow Read a b h = tt
 
-all_none : (ts : List Bool) → None ts → any_of ts ≡ false
+all_none : (ts : List Bool) → AllFalse ts → any_of ts ≡ false
 all_none [] f = refl
 all_none (t ∷ ts) f = rw f.0 (all_none ts f.1)
 
-first_three : (s t : Bool) → (1 ≤ cond s 1 (cond t 2 3)) × (cond s 1 (cond t 2 3) ≤ 3)
-first_three true t = (omega arith, omega arith)
-first_three false true = (omega arith, omega arith)
-first_three false false = (omega arith, omega arith)
+first_three : (s t : Bool) → (r : Refusal) × ((cond s (Some Pair) (cond t (Some State) (Some Range)) ≡ Some r) × ((1 ≤ number r) × (number r ≤ 3)))
+first_three true t = (Pair, (refl, (omega arith, omega arith)))
+first_three false true = (State, (refl, (omega arith, omega arith)))
+first_three false false = (Range, (refl, (omega arith, omega arith)))
 
--- so one that has is refused, by 3 or by what comes before it
+-- so one that has is a call that is refused, by 3 or by what comes before it
 pub wide-refused : (w : Ask) (a b : List ℕ) (p : ℕ) (sides : List Side) → any_of (too_wide w a) ≡ true
-    → (1 ≤ first_given (refusals small (asked (ask_of w a) b) p sides)) × (first_given (refusals small (asked (ask_of w a) b) p sides) ≤ 3)
+    → (q : engine.Ask) × ((ask_of w a ≡ Some q)
+    × ((r : Refusal) × ((first_given (refusals small (asked q b) p sides) ≡ Some r) × ((1 ≤ number r) × (number r ≤ 3)))))
 wide-refused w a b p sides h =
-    let q = asked (ask_of w a) b in
-    let out : out_of_range small q ≡ true
-    = by-test (out_of_range small q) (λ t. t) (λ t. absurd (true≢false (sym h ∙ all_none (too_wide w a) (in-range-narrow w a b t)))) in
-    rw out (first_three (leb 64 p) (wrong_state q (side_at sides p).standing.state))
+    go (ask_of w a) (by-test (ranged (ask_of w a) b) (λ t. t) (λ t. absurd (true≢false (sym h ∙ all_none (too_wide w a) (in-range-narrow w a b t)))))
+  where
+    go : (o : Option engine.Ask) → ranged o b ≡ true
+        → (q : engine.Ask) × ((o ≡ Some q) × ((r : Refusal) × ((first_given (refusals small (asked q b) p sides) ≡ Some r) × ((1 ≤ number r) × (number r ≤ 3)))))
+    go None out = absurd (true≢false (sym out))
+    go (Some q) out = (q, (refl, rw out (first_three (leb 64 p) (wrong_state (asked q b) (side_at sides p).standing.state))))

@@ -1,37 +1,26 @@
 -- The last arm of a `match`: what is asked is one of the others. Assumes nothing.
 use mathlib.Core.Path.{◌≡◌, refl}
-use mathlib.Core.Bool.{true, false≢true}
-use mathlib.Core.List.{List, [], ◌∷◌}
+use mathlib.Core.List.{List}
 use Prim.Native.Nat.{ℕ}
-use types.Run.{OneOf}
-use denote.Enum.Declared.{tag_of}
-use Rattle.refusal.specs.Choice.{among}
+use Rattle.std.specs.Prelude.{None}
 use Rattle.text.specs.declared.Ask.{Ask}
 use Rattle.text.specs.declared.Ask.TheVariants.{Nothing, Unread, Fresh, Open, Post, Emit, Ack, Response, Timer, Close, Room, Show, Free, Write, Read}
-use Rattle.text.specs.contracts.Ask as ask
-use Rattle.text.proofs.Keyed.{keyed}
-use Rattle.engine.specs.declared.Ask.TheVariants as engine
 use Rattle.orders.specs.Ordered.{ask_of}
 
-abbrev not_calls : List ℕ
-not_calls = 0 ∷ 1 ∷ 2 ∷ 9 ∷ 10 ∷ 11 ∷ 12 ∷ 13 ∷ 14 ∷ []
-
-pub no_call : (a : Ask) (xs : List ℕ) → OneOf not_calls (tag_of ask.the_type a) → engine.Close ≡ ask_of a xs
-no_call a xs h = go a (keyed not_calls (tag_of ask.the_type a) h)
-  where
-    go : (a : Ask) → among (tag_of ask.the_type a) not_calls ≡ true → engine.Close ≡ ask_of a xs
-    go Nothing e = refl
-    go Unread e = refl
-    go Fresh e = refl
-    go Open e = absurd (false≢true e)
-    go Post e = absurd (false≢true e)
-    go Emit e = absurd (false≢true e)
-    go Ack e = absurd (false≢true e)
-    go Response e = absurd (false≢true e)
-    go Timer e = absurd (false≢true e)
-    go Close e = refl
-    go Room e = refl
-    go Show e = refl
-    go Free e = refl
-    go Write e = refl
-    go Read e = refl
+pub no_call : (a : Ask) (xs : List ℕ) → (a ≡ Open → ⊥) → (a ≡ Post → ⊥) → (a ≡ Emit → ⊥) → (a ≡ Ack → ⊥) → (a ≡ Response → ⊥) → (a ≡ Timer → ⊥)
+    → (a ≡ Close → ⊥) → None ≡ ask_of a xs
+no_call Nothing xs o p e a r t c = refl
+no_call Unread xs o p e a r t c = refl
+no_call Fresh xs o p e a r t c = refl
+no_call Open xs o p e a r t c = absurd (o refl)
+no_call Post xs o p e a r t c = absurd (p refl)
+no_call Emit xs o p e a r t c = absurd (e refl)
+no_call Ack xs o p e a r t c = absurd (a refl)
+no_call Response xs o p e a r t c = absurd (r refl)
+no_call Timer xs o p e a r t c = absurd (t refl)
+no_call Close xs o p e a r t c = absurd (c refl)
+no_call Room xs o p e a r t c = refl
+no_call Show xs o p e a r t c = refl
+no_call Free xs o p e a r t c = refl
+no_call Write xs o p e a r t c = refl
+no_call Read xs o p e a r t c = refl

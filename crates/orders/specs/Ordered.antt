@@ -1,5 +1,5 @@
 -- What a line asks of the card, from "Reading" and "Calls" of the trace protocol.
-use Rattle.std.specs.Prelude.{ℕ, ◌-◌, ◌^◌, min, Bool, ◌&&◌, List, [], ◌∷◌, ltb, eqb, get_or, if◌then◌else◌}
+use Rattle.std.specs.Prelude.{ℕ, ◌-◌, ◌^◌, min, Bool, ◌&&◌, List, [], ◌∷◌, ltb, eqb, get_or, Option, None, Some, if◌then◌else◌}
 use Rattle.refusal.specs.Choice.{any_of}
 use Rattle.text.specs.declared.Ask.{Ask}
 use Rattle.text.specs.declared.Ask.TheVariants.{Nothing, Unread, Fresh, Open, Post, Emit, Ack, Response, Timer, Close, Room, Show, Free, Write, Read}
@@ -63,27 +63,27 @@ post_of a =
       value = if eqb (get_or a 3 0) 1 then cut (get_or a 4 0) else 0;
     }
 
--- of a call on a pair; what a line asks that is none of them is not asked of the engine, and has a close here
-abbrev pub ask_of : Ask → List ℕ → engine.Ask
-ask_of Open a = asks.Open (settings_of a) (cut (get_or a 2 0))
-ask_of Post a = asks.Post (post_of a)
+-- of a call on a pair; what a line asks that is none of them asks nothing of a pair
+abbrev pub ask_of : Ask → List ℕ → Option engine.Ask
+ask_of Open a = Some (asks.Open (settings_of a) (cut (get_or a 2 0)))
+ask_of Post a = Some (asks.Post (post_of a))
 -- "`emit P BUDGET`"
-ask_of Emit a = asks.Emit (cut (get_or a 1 0))
+ask_of Emit a = Some (asks.Emit (cut (get_or a 1 0)))
 -- "`ack P PSN SYNDROME`"
-ask_of Ack a = asks.Acknowledge (cut (get_or a 1 0)) (cut (get_or a 2 0))
+ask_of Ack a = Some (asks.Acknowledge (cut (get_or a 1 0)) (cut (get_or a 2 0)))
 -- "`response P PSN OPCODE LENGTH`": "32 bits for .. response LENGTH"
-ask_of Response a = asks.Respond (cut_if (ltb largest (get_or a 3 0)) (get_or a 1 0)) (cut (get_or a 2 0)) (cut (get_or a 3 0))
+ask_of Response a = Some (asks.Respond (cut_if (ltb largest (get_or a 3 0)) (get_or a 1 0)) (cut (get_or a 2 0)) (cut (get_or a 3 0)))
 -- "`timer P NS`"
-ask_of Timer a = asks.Tick (get_or a 1 0)
-ask_of Close a = asks.Close
-ask_of Nothing a = asks.Close
-ask_of Unread a = asks.Close
-ask_of Fresh a = asks.Close
-ask_of Room a = asks.Close
-ask_of Show a = asks.Close
-ask_of Free a = asks.Close
-ask_of Write a = asks.Close
-ask_of Read a = asks.Close
+ask_of Timer a = Some (asks.Tick (get_or a 1 0))
+ask_of Close a = Some asks.Close
+ask_of Nothing a = None
+ask_of Unread a = None
+ask_of Fresh a = None
+ask_of Room a = None
+ask_of Show a = None
+ask_of Free a = None
+ask_of Write a = None
+ask_of Read a = None
 
 -- the pair is the first number, as `room`'s bytes are, and `room`'s numbers the second
 abbrev pub ordered : Parsed → Order

@@ -1,5 +1,5 @@
 -- What the law of widths is stated with: a call that is just its line's numbers, and those of them that are too wide.
-use Rattle.std.specs.Prelude.{ℕ, Bool, List, [], ◌∷◌, ltb, eqb, get_or, if◌then◌else◌}
+use Rattle.std.specs.Prelude.{ℕ, Bool, List, [], ◌∷◌, ltb, eqb, get_or, Option, None, Some, if◌then◌else◌}
 use Rattle.text.specs.declared.Ask.{Ask}
 use Rattle.text.specs.declared.Ask.TheVariants.{Nothing, Unread, Fresh, Open, Post, Emit, Ack, Response, Timer, Close, Room, Show, Free, Write, Read}
 use Rattle.engine.specs.declared.Ask as engine
@@ -7,9 +7,10 @@ use Rattle.engine.specs.declared.Ask.TheVariants as asks
 use Rattle.orders.specs.Ordered.{largest, post_wide}
 
 -- no number is cut
-abbrev pub written : Ask → List ℕ → engine.Ask
+abbrev pub written : Ask → List ℕ → Option engine.Ask
 written Open a =
-    asks.Open
+    Some
+    (asks.Open
     record {
       far = get_or a 1 0;
       pkey = get_or a 3 0;
@@ -20,9 +21,10 @@ written Open a =
       rnr = get_or a 8 0;
       timeout = get_or a 9 0;
     }
-    (get_or a 2 0)
+    (get_or a 2 0))
 written Post a =
-    asks.Post
+    Some
+    (asks.Post
     record {
       kind = get_or a 2 0;
       immediate = eqb (get_or a 3 0) 1;
@@ -33,20 +35,20 @@ written Post a =
       address = get_or a 8 0;
       key = get_or a 9 0;
       value = if eqb (get_or a 3 0) 1 then get_or a 4 0 else 0;
-    }
-written Emit a = asks.Emit (get_or a 1 0)
-written Ack a = asks.Acknowledge (get_or a 1 0) (get_or a 2 0)
-written Response a = asks.Respond (get_or a 1 0) (get_or a 2 0) (get_or a 3 0)
-written Timer a = asks.Tick (get_or a 1 0)
-written Close a = asks.Close
-written Nothing a = asks.Close
-written Unread a = asks.Close
-written Fresh a = asks.Close
-written Room a = asks.Close
-written Show a = asks.Close
-written Free a = asks.Close
-written Write a = asks.Close
-written Read a = asks.Close
+    })
+written Emit a = Some (asks.Emit (get_or a 1 0))
+written Ack a = Some (asks.Acknowledge (get_or a 1 0) (get_or a 2 0))
+written Response a = Some (asks.Respond (get_or a 1 0) (get_or a 2 0) (get_or a 3 0))
+written Timer a = Some (asks.Tick (get_or a 1 0))
+written Close a = Some asks.Close
+written Nothing a = None
+written Unread a = None
+written Fresh a = None
+written Room a = None
+written Show a = None
+written Free a = None
+written Write a = None
+written Read a = None
 
 abbrev over : List ℕ → ℕ → Bool
 over a i = ltb largest (get_or a i 0)

@@ -1,29 +1,26 @@
 // What a line asks of the card.
-ghost use Rattle.std.specs.Prelude.{◌≡◌, true, take};
-ghost use Rattle.orders.specs.Ordered.{order_of, ordered, ask_of, settings_of, post_of, post_wide, cut_if};
+ghost use Rattle.std.specs.Prelude.{◌≡◌};
+ghost use Rattle.orders.specs.Ordered.{order_of, ask_of, settings_of, post_of, post_wide, cut_if};
 ghost use Rattle.orders.specs.Ordered.{cut as Ordered·cut};
 
 use crate::Order;
-use message::{both, either, pick, when};
 use rules::{Post, Settings};
-use text::{Parsed, front, parse};
+use text::{Ask, parse};
 
-const LARGEST: u64 = 4294967295;
+const LARGEST: u64 = u32::MAX as u64;
 
-// A number in 32 bits: the largest of them where it is wider.
+// A number in 32 bits: the largest of them where it is wider. No Option: a number too wide must be refused in its own place in the order (`wide-refused`).
 fn cut(n: u64) -> u32
     ensures { result ≡ Ordered·cut n }
 {
-    if n < LARGEST {
-        return n as u32;
-    }
-    4294967295
+    u32::try_from(n).unwrap_or(u32::MAX)
 }
 
+// No Option, as in `cut`.
 fn cut_if(wide: bool, n: u64) -> u32
     ensures { result ≡ cut_if wide n }
 {
-    pick(wide, 4294967295, cut(n))
+    if wide { u32::MAX } else { cut(n) }
 }
 
 fn settings_of(a: &[u64; 11]) -> Settings
@@ -45,11 +42,7 @@ fn settings_of(a: &[u64; 11]) -> Settings
 fn post_wide(a: &[u64; 11]) -> bool
     ensures { result ≡ post_wide a.now }
 {
-    let value = both(a[3] == 1, LARGEST < a[4]);
-    let mut wide = either(1 < a[5], LARGEST < a[9]);
-    wide = either(value, wide);
-    wide = either(1 < a[3], wide);
-    either(LARGEST < a[1], wide)
+    a[1] > LARGEST || a[3] > 1 || a[3] == 1 && a[4] > LARGEST || a[5] > 1 || a[9] > LARGEST
 }
 
 fn post_of(a: &[u64; 11]) -> Post
@@ -64,50 +57,47 @@ fn post_of(a: &[u64; 11]) -> Post
         length: cut(a[6]),
         address: a[8],
         key: cut(a[9]),
-        value: when(a[3] == 1, cut(a[4])),
+        value: if a[3] == 1 { cut(a[4]) } else { 0 },
     }
 }
 
-fn ask_of(what: text::Ask, a: &[u64; 11]) -> engine::Ask
+// What a call asks of its pair; none where the line asks nothing of a pair.
+#[tactic(auto, using(crate::proofs::Rest::no_call))]
+fn ask_of(what: Ask, a: &[u64; 11]) -> Option<engine::Ask>
     ensures { result ≡ ask_of what a.now }
 {
-    match what {
-        text::Ask::Open => engine::Ask::Open {
+    Some(match what {
+        Ask::Open => engine::Ask::Open {
             settings: settings_of(a),
             first: cut(a[2]),
         },
-        text::Ask::Post => engine::Ask::Post { post: post_of(a) },
-        text::Ask::Emit => engine::Ask::Emit { budget: cut(a[1]) },
-        text::Ask::Ack => engine::Ask::Acknowledge {
+        Ask::Post => engine::Ask::Post { post: post_of(a) },
+        Ask::Emit => engine::Ask::Emit { budget: cut(a[1]) },
+        Ask::Ack => engine::Ask::Acknowledge {
             psn: cut(a[1]),
             syndrome: cut(a[2]),
         },
-        text::Ask::Response => engine::Ask::Respond {
-            psn: cut_if(LARGEST < a[3], a[1]),
+        Ask::Response => engine::Ask::Respond {
+            psn: cut_if(a[3] > LARGEST, a[1]),
             opcode: cut(a[2]),
             length: cut(a[3]),
         },
-        text::Ask::Timer => engine::Ask::Tick { elapsed: a[1] },
-        _ => engine::Ask::Close,
-    }
+        Ask::Timer => engine::Ask::Tick { elapsed: a[1] },
+        Ask::Close => engine::Ask::Close,
+        _ => return None,
+    })
 }
 
-fn ordered(p: Parsed) -> Order
-    ensures { result ≡ ordered p }
+#[tactic(auto, unfolding(crate::specs::Ordered::order_of))]
+pub fn order_of(line: &[u8]) -> Order
+    ensures { result ≡ order_of line.now }
 {
-    let what = p.ask;
+    let p = parse(line);
     Order {
-        what,
+        what: p.ask,
         pair: cut(p.args[0]),
-        ask: ask_of(what, &p.args),
+        ask: ask_of(p.ask, &p.args),
         bytes: p.args[0] as usize,
         numbers: p.args[1] as usize,
     }
-}
-
-// Of the line in the first `kept` bytes.
-pub fn order_of(line: &mut [u8], kept: usize) -> Order
-    ensures { (result ≡ order_of (take kept line.old)) × (line.new ≡ line.old) }
-{
-    ordered(parse(front(&line[..], kept)))
 }

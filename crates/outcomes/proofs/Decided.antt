@@ -1,16 +1,16 @@
 -- With what a scan has found, the decisions are the rules': a release, an acknowledgement, a read response.
-use Rattle.std.specs.Prelude.{if◌then◌else◌}
+use Rattle.std.specs.Prelude.{Option, if◌then◌else◌}
 use mathlib.Core.Path.{◌≡◌, sym, ap, ◌∙◌}
-use mathlib.Core.Bool.{Bool, true, false, not, ◌&&◌}
+use mathlib.Core.Bool.{Bool, true, false, not}
 use mathlib.Core.List.{List, [], ◌∷◌}
 use Prim.Native.Nat.{ℕ, zero, suc, ◌-◌, ◌≤◌, ◌<◌}
 use native.Mathlib.Omega.{arith}
 use native.Mathlib.Nat.{not-suc-le-zero, le_of_suc-le-suc}
 use lib.Dec.{ltb, leb, eqb}
-use borrow.Author.Tests.{ltb-true, ltb-false, lt-ltb}
+use borrow.Author.Tests.{ltb-true, ltb-false}
 use lib.ListN.{length, get_or}
 use Rattle.psn.specs.Psn.{before, next}
-use Rattle.refusal.proofs.Cases.{by-test, and_none}
+use Rattle.refusal.proofs.Cases.{by-test}
 use Rattle.rules.specs.declared.Packet.{Packet}
 use Rattle.rules.specs.declared.Release.{Release}
 use Rattle.rules.specs.declared.Outcome.{Outcome}
@@ -25,6 +25,7 @@ use Rattle.rules.proofs.Sides.InOrder.{InOrder}
 use Rattle.rules.proofs.Sides.Order.{ahead-most}
 use Rattle.rules.specs.Release.{stays}
 use Rattle.rules.proofs.Sides.Scan.{released-is}
+use Rattle.outcomes.specs.declared.Found.{Found}
 use Rattle.outcomes.specs.Finding.{found_in, bound_of}
 use Rattle.outcomes.specs.Deciding.{release_by, acknowledged, responded_to}
 
@@ -58,14 +59,25 @@ module _ (s : Side) (o : InOrder s) (b : ℕ) (l : List ℕ) where
   to_read : ℕ
   to_read = ahead (passed_by b s.standing) s.packets
 
-  shape : (stops : Bool) → ltb 0 (all - staying) && passed_by b s.standing halt ≡ stops
-      → release_by all (found_in (stays b s.standing) l s.packets) s.standing b
+  out : Option Found
+  out = found_in (stays b s.standing) l s.packets
+
+  -- one stays, or none does
+  some : (stops : Bool) → ltb staying all ≡ true → passed_by b s.standing halt ≡ stops
+      → release_by all out s.standing b
       ≡ record { stopped = stops; released = staying; standing = advanced (if stops then unanswered s.standing halt else b) s.standing }
-  unfolding all staying halt
-  shape stops e = λ i. record { stopped = e i; released = back i; standing = advanced (if e i then unanswered s.standing halt else b) s.standing }
+  unfolding all staying halt out
+  some stops h e = rw h (λ i. record { stopped = e i; released = back i; standing = advanced (if e i then unanswered s.standing halt else b) s.standing })
     where
       back : all - (all - staying) ≡ staying
       back = omega (arith, ahead-most (stays b s.standing) s.packets)
+
+  none : ltb staying all ≡ false → release_by all out s.standing b ≡ record { stopped = false; released = staying; standing = advanced b s.standing }
+  unfolding all staying out
+  none h = rw h (λ i. record { stopped = false; released = same i; standing = advanced b s.standing })
+    where
+      same : all ≡ staying
+      same = omega (arith, ltb-false staying all h, ahead-most (stays b s.standing) s.packets)
 
   stopped-is : ltb to_read all ≡ true
       → release b s ≡ record { stopped = true; released = to_read; standing = advanced (unanswered s.standing (get_or s.packets to_read no_packet)) s.standing }
@@ -84,24 +96,23 @@ module _ (s : Side) (o : InOrder s) (b : ℕ) (l : List ℕ) where
 
   -- the first record that stays tells the whole release
   pub release-is : release_by (length s.packets) (found_in (stays b s.standing) l s.packets) s.standing b ≡ release b s
-  unfolding all staying halt to_read
+  unfolding all staying halt to_read out
   release-is =
       by-test (ltb to_read all)
       (λ e.
-      let low : to_read < all = ltb-true to_read all e in
-      shape true (rw (lt-ltb 0 (all - staying) (omega (arith, low, at_read e))) (rw (← at_read e) (holds (passed_by b s.standing) s.packets low)))
+      some true (rw (← at_read e) e) (rw (← at_read e) (holds (passed_by b s.standing) s.packets (ltb-true to_read all e)))
       ∙ ap (λ (k : ℕ). record { stopped = true; released = k; standing = advanced (unanswered s.standing (get_or s.packets k no_packet)) s.standing }) (sym (at_read e))
       ∙ sym (stopped-is e))
       (λ e.
-      shape false (none e (ltb-false to_read all e))
+      clear e
       ∙ ap (λ (k : ℕ). record { stopped = false; released = k; standing = advanced b s.standing }) (sym (released-is s o b) ∙ ap (λ (g : Release). g.released) (clear-is e))
       ∙ sym (clear-is e))
     where
-      none : ltb to_read all ≡ false → all ≤ to_read → ltb 0 (all - staying) && passed_by b s.standing halt ≡ false
-      none e h =
-          by-test (ltb 0 (all - staying))
-          (λ more. rw (fails (passed_by b s.standing) s.packets staying h (omega (arith, ltb-true 0 (all - staying) more))) (and_none (ltb 0 (all - staying))))
-          (λ no. rw no)
+      clear : ltb to_read all ≡ false → release_by all out s.standing b ≡ record { stopped = false; released = staying; standing = advanced b s.standing }
+      clear e =
+          by-test (ltb staying all)
+          (λ h. some false h (fails (passed_by b s.standing) s.packets staying (ltb-false to_read all e) (ltb-true staying all h)))
+          none
 
 module _ (s : Side) (o : InOrder s) (l : List ℕ) where
   pub acknowledge-is : (r y : ℕ)

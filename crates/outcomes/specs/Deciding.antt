@@ -1,5 +1,5 @@
 -- The rules for a pair of which a scan has found what they ask for: the same rules, with "the first read" and "the first record that stays" given.
-use Rattle.std.specs.Prelude.{not, ◌&&◌, [], ℕ, ◌-◌, min, ltb, if◌then◌else◌}
+use Rattle.std.specs.Prelude.{false, not, [], ℕ, ◌-◌, min, Option, None, Some, if◌then◌else◌}
 use Rattle.rules.specs.declared.Answer.TheVariants.{Dropped}
 use Rattle.rules.specs.declared.Outcome.{Outcome}
 use Rattle.rules.specs.declared.Packet.{Packet}
@@ -24,17 +24,18 @@ abbrev pub held_at_most : Pair → ℕ
 held_at_most p = min p.queue.held small.slots
 
 -- the release before b of a pair that holds so many packets, the first that stays being given: it stops at a read that is passed (`release-is`)
-abbrev pub release_by : ℕ → Found → Standing → ℕ → Release
-release_by held f t b =
-    let stops = ltb 0 f.left && passed_by b t f.packet in
+abbrev pub release_by : ℕ → Option Found → Standing → ℕ → Release
+release_by held None t b = record { stopped = false; released = held; standing = advanced b t }
+release_by held (Some f) t b =
+    let stops = passed_by b t f.packet in
     record { stopped = stops; released = held - f.left; standing = advanced (if stops then unanswered t f.packet else b) t }
 
 -- an acknowledgement (`acknowledge-is`)
-abbrev pub acknowledged : ℕ → ℕ → ℕ → Found → Standing → Outcome
+abbrev pub acknowledged : ℕ → ℕ → ℕ → Option Found → Standing → Outcome
 acknowledged r syndrome held f t =
     if not (inside r (bare t)) then staying Dropped t else answered t.settings r syndrome held (release_by held f t)
 
 -- a read response, the read that has R being given (`response-is`)
-abbrev pub responded_to : ℕ → ℕ → Found → Packet → Standing → Outcome
+abbrev pub responded_to : ℕ → ℕ → Option Found → Packet → Standing → Outcome
 responded_to r held f p t =
     if not (inside r (bare t)) then staying Dropped t else responded t.line.u r (at_last t.settings r p) (release_by held f t r)

@@ -1,17 +1,16 @@
 // What an acknowledgement or a read response makes of a pair.
-ghost use Rattle.std.specs.Prelude.{◌≡◌, ◌+◌, ◌≤◌, ◌<◌, min, eqb, get_or, if◌then◌else◌};
-ghost use Rattle.rules.specs.declared.Answer.TheVariants.{Dropped};
+ghost use Rattle.std.specs.Prelude.{◌≡◌, ◌≤◌, min};
 ghost use Rattle.rules.specs.Outcome.{staying, ended_standing};
 ghost use Rattle.rules.specs.Ranges.{low_bits};
-ghost use Rattle.rules.specs.Acknowledge.{back_to_u, resending, ack, ended_after, rnr, waits, wait_of, answered};
+ghost use Rattle.rules.specs.Acknowledge.{back_to_u, resending, ack, ended_after, rnr, wait_of, answered};
 ghost use Rattle.rules.specs.Response.{at_last, taken, responded};
 ghost use Rattle.message.specs.Capped.{capped, tidy};
 ghost use Rattle.outcomes.specs.Finding.{bound_of};
 ghost use Rattle.outcomes.specs.Deciding.{release_by, acknowledged, responded_to};
 
 use crate::Found;
-use crate::releasing::{further, release_by, renewed, updated};
-use message::{Card, State, both, is_inside, less, pick, smaller, span, tidied};
+use crate::releasing::{further, release_by, renewed};
+use message::{Card, State, is_inside, span, tidied};
 use psn::Psn;
 use rules::{Answer, Clock, Line, Outcome, Packet, Release, Settings, Standing};
 
@@ -23,62 +22,44 @@ const WAITS: [u32; 32] = [
 
 const WAIT_UNIT: u64 = 10_000;
 
-fn units_of(low: u32) -> u32
-    requires { low < 32 }
-    ensures { result ≡ get_or waits low 0 }
-{
-    WAITS[low as usize]
-}
-
 fn wait_of(syndrome: u32) -> u64
     ensures { result ≡ wait_of (low_bits syndrome) }
 {
-    let units = units_of(syndrome % 32);
-    WAIT_UNIT * units as u64
+    WAIT_UNIT * u64::from(WAITS[(syndrome % 32) as usize])
 }
 
 pub(crate) fn back_to_u(retries: u32, rnrs: u32, hold: u64, t: Standing) -> Standing
     ensures { result ≡ back_to_u retries rnrs hold t }
 {
     let l = t.line;
-    let line = Line {
-        u: l.u,
-        x: l.u,
-        h: l.h,
-        n: l.n,
-    };
+    let line = Line { x: l.u, ..l };
     let clock = Clock {
         retries,
         rnrs,
         elapsed: 0,
         hold,
     };
-    updated(line, clock, t)
+    Standing { line, clock, ..t }
 }
 
 pub(crate) fn ended_standing(t: Standing) -> Standing
     ensures { result ≡ ended_standing t }
 {
-    let l = t.line;
-    let c = t.clock;
-    let line = Line {
-        u: l.n,
-        x: l.n,
-        h: l.n,
-        n: l.n,
-    };
-    let clock = Clock {
-        retries: c.retries,
-        rnrs: c.rnrs,
-        elapsed: 0,
-        hold: 0,
-    };
-    let settings = t.settings;
+    let n = t.line.n;
     Standing {
-        state: State::ENDED,
-        settings,
-        line,
-        clock,
+        state: State::Ended as u32,
+        line: Line {
+            u: n,
+            x: n,
+            h: n,
+            n,
+        },
+        clock: Clock {
+            elapsed: 0,
+            hold: 0,
+            ..t.clock
+        },
+        ..t
     }
 }
 
@@ -98,14 +79,12 @@ pub(crate) fn staying(answer: Answer, standing: Standing) -> Outcome
 fn resending(g: Release) -> Outcome
     ensures { result ≡ resending g }
 {
-    let t = g.standing;
-    let c = t.clock;
-    let standing = back_to_u(c.retries, c.rnrs, c.hold, t);
+    let c = g.standing.clock;
     Outcome {
         answer: Answer::Resending,
         released: g.released,
         flushed: 0,
-        standing,
+        standing: back_to_u(c.retries, c.rnrs, c.hold, g.standing),
     }
 }
 
@@ -115,12 +94,11 @@ fn ack(g: Release) -> Outcome
     if g.stopped {
         return resending(g);
     }
-    let standing = g.standing;
     Outcome {
         answer: Answer::Done,
         released: g.released,
         flushed: 0,
-        standing,
+        standing: g.standing,
     }
 }
 
@@ -128,35 +106,32 @@ fn ack(g: Release) -> Outcome
 fn ended_after(held: u32, g: Release) -> Outcome
     ensures { result ≡ ended_after held g }
 {
-    let t = g.standing;
-    let standing = ended_standing(t);
-    let flushed = less(held, g.released);
     Outcome {
         answer: Answer::Ended,
         released: g.released,
-        flushed,
-        standing,
+        flushed: held.saturating_sub(g.released),
+        standing: ended_standing(g.standing),
     }
 }
 
 fn rnr(s: Settings, wait: u64, held: u32, g: Release) -> Outcome
     ensures { result ≡ rnr s wait held g }
 {
-    let t = g.standing;
-    let c = t.clock;
+    let c = g.standing.clock;
     let counts = s.rnr < 7;
-    let last = both(counts, c.rnrs == 0);
-    if last {
+    if counts && c.rnrs == 0 {
         return ended_after(held, g);
     }
-    let fewer = less(c.rnrs, 1);
-    let left = pick(counts, fewer, c.rnrs);
-    let standing = back_to_u(c.retries, left, wait, t);
+    let left = if counts {
+        c.rnrs.saturating_sub(1)
+    } else {
+        c.rnrs
+    };
     Outcome {
         answer: Answer::Held,
         released: g.released,
         flushed: 0,
-        standing,
+        standing: back_to_u(c.retries, left, wait, g.standing),
     }
 }
 
@@ -164,83 +139,54 @@ fn rnr(s: Settings, wait: u64, held: u32, g: Release) -> Outcome
 pub fn bound_of(r: u32, syndrome: u32) -> u32
     ensures { result ≡ bound_of r syndrome }
 {
-    if syndrome / 32 == 0 {
-        return Psn::next(r);
-    }
-    r
+    if syndrome / 32 == 0 { Psn::next(r) } else { r }
 }
 
 // After the release, whatever it was before, by the syndrome's top bits.
 fn answered(s: Settings, syndrome: u32, held: u32, g: Release) -> Outcome
     ensures { result ≡ answered s 0 syndrome held (λ _. g) }
 {
-    let top = syndrome / 32;
-    if top == 0 {
-        return ack(g);
+    // No enum of syndromes: the host's number goes by its top and low bits, as in `bound_of` and document 01.
+    match syndrome / 32 {
+        0 => ack(g),
+        1 => rnr(s, wait_of(syndrome), held, g),
+        _ if syndrome % 32 <= 2 => resending(g),
+        _ => ended_after(held, g),
     }
-    if top == 1 {
-        let wait = wait_of(syndrome);
-        return rnr(s, wait, held, g);
-    }
-    if syndrome % 32 <= 2 {
-        return resending(g);
-    }
-    ended_after(held, g)
-}
-
-fn answered_inside(r: u32, syndrome: u32, held: u32, f: Found, t: Standing) -> Outcome
-    ensures { result ≡ answered (capped t.settings) r syndrome held (release_by held f (tidy t)) }
-{
-    let b = bound_of(r, syndrome);
-    let g = release_by(held, f, t, b);
-    let now = tidied(t);
-    let s = now.settings;
-    answered(s, syndrome, held, g)
 }
 
 // An acknowledgement for R: dropped, unless R is inside the open range.
-pub fn acknowledged(r: u32, syndrome: u32, held: u32, f: Found, t: Standing) -> Outcome
+pub fn acknowledged(r: u32, syndrome: u32, held: u32, f: Option<Found>, t: Standing) -> Outcome
     ensures { result ≡ acknowledged r syndrome held f (tidy t) }
 {
-    let line = t.line;
-    let inside = is_inside(line, r);
-    if inside {
-        return answered_inside(r, syndrome, held, f, t);
-    }
     let now = tidied(t);
-    staying(Answer::Dropped, now)
+    if !is_inside(t.line, r) {
+        return staying(Answer::Dropped, now);
+    }
+    let g = release_by(held, f, t, bound_of(r, syndrome));
+    answered(now.settings, syndrome, held, g)
 }
 
 fn taken(found: u32, a: u32, t: Standing) -> Standing
     ensures { result ≡ taken found a t }
 {
     let l = t.line;
-    let s = t.settings;
-    let c = t.clock;
-    let x = further(found, l.x, a);
-    let clock = renewed(s, c);
-    let line = Line {
-        u: a,
-        x,
-        h: l.h,
-        n: l.n,
-    };
-    updated(line, clock, t)
-}
-
-fn is_last_of(k: u32, n: u32) -> bool
-    ensures { result ≡ eqb (k + 1) n }
-{
-    k as u64 + 1 == n as u64
+    Standing {
+        line: Line {
+            u: a,
+            x: further(found, l.x, a),
+            ..l
+        },
+        clock: renewed(t.settings, t.clock),
+        ..t
+    }
 }
 
 // R's place is the read's last.
 pub fn at_last(s: Settings, r: u32, p: Packet) -> bool
     ensures { result ≡ at_last (capped s) r p }
 {
-    let k = Psn::distance(p.psn, r);
-    let n = span(s, p);
-    is_last_of(k, n)
+    u64::from(Psn::distance(p.psn, r)) + 1 == u64::from(span(s, p))
 }
 
 fn responded(found: u32, r: u32, ending: bool, g: Release) -> Outcome
@@ -250,31 +196,21 @@ fn responded(found: u32, r: u32, ending: bool, g: Release) -> Outcome
     if g.stopped {
         return resending(g);
     }
-    let t = g.standing;
-    let after = Psn::next(r);
-    let standing = taken(found, after, t);
-    let last = pick(ending, 1, 0);
     Outcome {
         answer: Answer::Done,
-        released: g.released + last,
+        released: g.released + u32::from(ending),
         flushed: 0,
-        standing,
+        standing: taken(found, Psn::next(r), g.standing),
     }
 }
 
 // A read response for R, p being the read that has it; no pair holds more than there are slots.
-pub fn responded_to(r: u32, held: u32, f: Found, p: Packet, t: Standing) -> Outcome
+pub fn responded_to(r: u32, held: u32, f: Option<Found>, p: Packet, t: Standing) -> Outcome
     ensures { result ≡ responded_to r (min held 256) f p (tidy t) }
 {
-    let line = t.line;
-    let inside = is_inside(line, r);
-    let most = smaller(held, Card::SLOTS);
-    if inside {
-        let g = release_by(most, f, t, r);
-        let s = t.settings;
-        let end = at_last(s, r, p);
-        return responded(line.u, r, end, g);
+    if !is_inside(t.line, r) {
+        return staying(Answer::Dropped, tidied(t));
     }
-    let now = tidied(t);
-    staying(Answer::Dropped, now)
+    let g = release_by(held.min(Card::SLOTS), f, t, r);
+    responded(t.line.u, r, at_last(t.settings, r, p), g)
 }

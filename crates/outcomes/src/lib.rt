@@ -6,12 +6,12 @@ mod releasing;
 mod timing;
 
 pub use answering::{acknowledged, at_last, bound_of, responded_to};
-pub use releasing::{further, updated};
+pub use releasing::further;
 use rules::Packet;
 pub use timing::timed;
 
-// The first packet of a kind in a queue: how many are left from it on (0 where there is none), its slot, and what it says.
-#[derive(Clone, Copy)]
+// The first packet of a kind in a queue: how many are left from it on, its slot, and what it says.
+#[derive(Clone, Copy, Debug, PartialEq, Eq)]
 pub struct Found {
     pub left: u32,
     pub slot: u32,

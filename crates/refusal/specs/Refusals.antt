@@ -1,16 +1,17 @@
--- "Refusal numbers": a table of rows `test gives number`, of which the first that holds is given.
+-- "Refusal numbers": a table of rows `test gives refusal`, of which the first that holds is given.
 -- Assumes nothing.
-use Rattle.std.specs.Prelude.{Bool, List, [], ◌∷◌, ℕ, if◌then◌else◌}
+use Rattle.std.specs.Prelude.{Bool, List, [], ◌∷◌, Option, None, Some, if◌then◌else◌}
+use Rattle.refusal.specs.declared.Refusal.{Refusal}
 
 infix 80 ◌gives◌
 pub record Row : Type 0 where
   pub holds : Bool
-  pub number : ℕ
+  pub refusal : Refusal
 
-abbrev pub ◌gives◌ : Bool → ℕ → Row
-t gives n = record { holds = t; number = n }
+abbrev pub ◌gives◌ : Bool → Refusal → Row
+t gives r = record { holds = t; refusal = r }
 
--- the number of the first row that holds, or 0
-abbrev pub first_given : List Row → ℕ
-first_given [] = 0
-first_given (l ∷ ls) = if l.holds then l.number else first_given ls
+-- the refusal of the first row that holds, if one does
+abbrev pub first_given : List Row → Option Refusal
+first_given [] = None
+first_given (l ∷ ls) = if l.holds then Some l.refusal else first_given ls

@@ -1,21 +1,13 @@
--- Each turn leaves fewer turns.
+-- Each byte leaves fewer bytes.
 use mathlib.Core.List.{List}
 use Prim.Native.Nat.{ℕ, ◌-◌, ◌<◌}
 use native.Mathlib.Omega.{arith}
 use lib.Dec.{ltb}
 use lib.ListN.{get_or}
 use Rattle.refusal.proofs.Cases.{if-case}
-use Rattle.rules.specs.declared.Pair.{Pair}
-use Rattle.rules.specs.declared.Slot.{Slot}
-use Rattle.replay.specs.declared.lists.Counting.{Counting}
+use Rattle.replay.specs.declared.desk.Desk.{Desk}
 use Rattle.replay.specs.Kept.{half, is_end}
-use Rattle.replay.specs.Serving.{Desk, Listed, count_turn, list_turn, answered, kept_in, fed}
-
-pub count_less : (ps : List Pair) (w : Counting) → 0 < w.left → (count_turn ps w).left < w.left
-count_less ps w l = omega (arith, l)
-
-pub list-less : (ss : List Slot) (x : Listed) → 0 < x.work.left → (list_turn ss x).work.left < x.work.left
-list-less ss x l = omega (arith, l)
+use Rattle.replay.specs.Serving.{answered, kept_in, fed}
 
 -- a line's end takes a byte as well, and all that is left where many answers wait
 answered_less : (d : Desk) → 0 < d.place.left → (answered d).place.left < d.place.left

@@ -1,4 +1,5 @@
-mod Past
+mod Rest
 pub mod Less
+mod Listing
 pub mod Text
 pub mod Lines

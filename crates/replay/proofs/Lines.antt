@@ -11,7 +11,8 @@ use borrow.Author.Tests.{lt-ltb}
 use Rattle.refusal.specs.Choice.{Each}
 use Rattle.refusal.proofs.Loop.{loop-more}
 use Rattle.replay.specs.Kept.{is_end}
-use Rattle.replay.specs.Serving.{Desk, answered, kept_in, fed, fed_all}
+use Rattle.replay.specs.declared.desk.Desk.{Desk}
+use Rattle.replay.specs.Serving.{answered, kept_in, fed, fed_all}
 use Rattle.replay.proofs.Less.{fed-less}
 
 -- the first of what is left

@@ -1,6 +1,7 @@
 -- Where the reading stands, and how a line is put together byte by byte, from "Reading" of the trace protocol. Assumes nothing.
 use Rattle.std.specs.Prelude.{ℕ, ◌+◌, ◌-◌, ◌^◌, min, Bool, true, eqb, ltb, if◌then◌else◌}
-use Rattle.replay.specs.declared.keeping.Place.{Place}
+use Rattle.card.specs.declared.Limits.{Limits}
+use Rattle.replay.specs.declared.place.Place.{Place}
 
 -- "L being its number in the input, from 1"; past the largest number there is none to come
 abbrev pub next_number : ℕ → ℕ
@@ -8,7 +9,7 @@ next_number n = min (n + 1) (2 ^ 64 - 1)
 
 -- "the lent buffers are 3,072 bytes and 512 numbers"
 abbrev pub start : Place
-start = record { turns = 2 ^ 64 - 1; from = 0; left = 0; rest = 0; kept = 0; number = 1; at = 0; numbers = 512; bytes = 3072; more = true }
+start = record { from = 0; left = 0; rest = 0; kept = 0; number = 1; at = 0; limits = record { numbers = 512; bytes = 3072 }; more = true }
 
 -- "A line ends at a newline"
 abbrev pub is_end : ℕ → Bool
@@ -18,35 +19,23 @@ is_end b = eqb b 10
 abbrev pub half : ℕ
 half = 32768
 
+-- a byte was taken
+abbrev pub next_byte : Place → Place
+next_byte w = record w { from = next_number w.from; left = w.left - 1 }
+
 -- a byte more of the line is kept, where there is room for it among so many
 abbrev pub kept_by : ℕ → Place → Place
-kept_by room w =
-    record {
-      turns = w.turns;
-      from = next_number w.from;
-      left = w.left - 1;
-      rest = w.rest;
-      kept = if ltb w.kept room then w.kept + 1 else w.kept;
-      number = w.number;
-      at = w.at;
-      numbers = w.numbers;
-      bytes = w.bytes;
-      more = w.more;
-    }
+kept_by room w = record (next_byte w) { kept = if ltb w.kept room then w.kept + 1 else w.kept }
 
--- the line is answered up to `at`: the next one begins, and what was read waits where many answers do
-abbrev pub next_line : Place → ℕ → ℕ → ℕ → Place
-next_line w at numbers bytes =
-    let many = ltb half at in
-    record {
-      turns = w.turns;
-      from = next_number w.from;
-      left = if many then 0 else w.left - 1;
-      rest = if many then w.left - 1 else w.rest;
+-- the line is answered: the next one begins, and what was read waits where many answers do
+abbrev pub next_line : Place → Limits → Place
+next_line w limits =
+    let next = next_byte w in
+    let many = ltb half w.at in
+    record next {
+      left = if many then 0 else next.left;
+      rest = if many then next.left else w.rest;
       kept = 0;
       number = next_number w.number;
-      at = at;
-      numbers = numbers;
-      bytes = bytes;
-      more = w.more;
+      limits = limits;
     }

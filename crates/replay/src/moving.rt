@@ -1,63 +1,56 @@
-// What is read and what is written.
-ghost use Rattle.std.specs.Prelude.{◌<◌};
-
-use crate::keeping::Place;
+// What is read and what is written, turn by turn.
+use crate::LARGE;
+use crate::desk::Desk;
+use crate::place::{HALF, Place};
 use std::io::{Print, Read};
 use text::front;
 
-// What is collected before it is written out.
-const HALF: usize = 32768;
-
-fn taken(w: Place, left: usize, from: usize, more: bool) -> Place {
-    let mut next = w;
-    next.from = from;
-    next.left = left;
-    next.rest = 0;
-    next.more = more;
-    next
-}
-
 // What waits of the bytes that were read, or else a read. At the input's end the last line, which has perhaps no newline, is given one.
-pub(crate) fn fetch(rt: &HostRuntime, input: &mut [u8], w: Place) -> Place {
-    if 0 < w.rest {
-        return taken(w, w.rest, w.from, w.more);
+fn fetch(rt: &HostRuntime, input: &mut [u8; LARGE], w: Place) -> Place {
+    if w.rest > 0 {
+        return Place {
+            left: w.rest,
+            rest: 0,
+            ..w
+        };
     }
     let got = rt.stdin().read(input).unwrap_or(0);
-    if got == 0 {
-        if 0 < w.kept {
-            if 0 < input.len() {
-                input[0] = b'\n';
-                return taken(w, 1, 0, false);
-            }
-        }
-        return taken(w, 0, 0, false);
+    let last = got == 0 && w.kept > 0;
+    if last {
+        input[0] = b'\n';
     }
-    taken(w, got, 0, true)
+    Place {
+        from: 0,
+        left: if last { 1 } else { got },
+        more: got > 0,
+        ..w
+    }
 }
 
-fn fewer_turns(b: Place, w: Place, going: bool) -> Place
-    ensures { 0 < w.turns → result.turns < w.turns }
-{
-    let mut next = b;
-    next.turns = 0;
-    if going {
-        if 0 < w.turns {
-            next.turns = w.turns - 1;
-        }
+// Writes out what is collected, where that is much or nothing more comes; whether to go on. Where a write fails, the rest is left.
+fn flush(rt: &HostRuntime, desk: &mut Desk) -> bool {
+    let w = desk.place;
+    let goes_on = w.more || w.rest > 0;
+    if goes_on && w.at <= HALF {
+        return true;
     }
-    next
+    desk.place.at = 0;
+    let written = rt.stdout().write_all(front(&desk.text, w.at)).is_ok();
+    written && goes_on
 }
 
-// Writes out what is collected, where that is much or nothing more comes. Where a write fails, the rest is left.
-pub(crate) fn flush(rt: &HostRuntime, out: &mut [u8], b: Place, w: Place) -> Place
-    ensures { 0 < w.turns → result.turns < w.turns }
-{
-    let goes_on = b.more || 0 < b.rest;
-    if goes_on && b.at <= HALF {
-        return fewer_turns(b, w, true);
+// Reads once where nothing of what was read waits, answers as many lines as there is room for, and writes out what is collected.
+fn turn(rt: &HostRuntime, desk: &mut Desk, input: &mut [u8; LARGE]) -> bool {
+    desk.place = fetch(rt, input, desk.place);
+    desk.feed(input);
+    flush(rt, desk)
+}
+
+// Nothing says that the input ends, so the turns are counted: by a number that no run uses up.
+pub(crate) fn serve(rt: &HostRuntime, desk: &mut Desk, input: &mut [u8; LARGE]) {
+    for _ in 0..u64::MAX {
+        if !turn(rt, desk, input) {
+            return;
+        }
     }
-    let well = rt.stdout().write_all(front(&out[..], b.at)).is_ok();
-    let mut next = b;
-    next.at = 0;
-    fewer_turns(next, w, well && goes_on)
 }

@@ -8,8 +8,10 @@ use lib.Dec.{eqb, ltb}
 use borrow.Author.Tests.{ltb-true, ltb-false, eqb-true, eq-eqb}
 use lib.ListN.{length}
 use Rattle.refusal.proofs.Cases.{by-test, and_left, and_right}
+use Rattle.std.specs.Prelude.{Result, Ok, Err}
+use Rattle.refusal.specs.declared.Refusal.{Refusal}
+use Rattle.refusal.specs.Numbers.{number}
 use Rattle.rules.specs.declared.Reply.{Reply}
-use Rattle.rules.specs.declared.Reply.TheVariants.{Refused, Answered, First, Count}
 use Rattle.rules.specs.Card.{Card}
 use Rattle.rules.specs.Account.{Side}
 use Rattle.rules.specs.Outcome.{Departure}
@@ -33,11 +35,14 @@ use Rattle.rules.proofs.Calls.Emits.{emits}
 use Rattle.rules.proofs.Calls.Ledger.{Balanced, balanced, blank-balanced}
 
 -- an answer with a number is a refusal with that number
-refusal-of : (r : Reply) → 0 < number_of r → r ≡ Refused (number_of r)
-refusal-of (Refused n) h = refl
-refusal-of (Answered a m p) h = absurd (omega arith)
-refusal-of (First n) h = absurd (omega arith)
-refusal-of (Count n) h = absurd (omega arith)
+record Refused (r : Result Reply Refusal) : Type 0 where
+  by : Refusal
+  is : r ≡ Err by
+  numbered : number_of r ≡ number by
+
+refusal-of : (r : Result Reply Refusal) → 0 < number_of r → Refused r
+refusal-of (Err n) h = record { by = n; is = refl; numbered = refl }
+refusal-of (Ok a) h = absurd (omega arith)
 
 module _ (card : Card) where
   -- ---- demand 1
@@ -50,15 +55,15 @@ module _ (card : Card) where
   pub harmless : (c : Call) (t : Tables) → Harmless card c t
   harmless starting t =
       record {
-        tables = λ h. unchanged-start card t _ (refusal-of (call card starting t).said.reply h);
+        tables = λ h. unchanged-start card t _ (refusal-of (call card starting t).said.reply h).is;
         kept = λ h. start-buffer t;
         as_long = ap length (start-buffer t);
       }
   harmless (on p q) t =
       let refused = refusal-of (call card (on p q) t).said.reply in
       record {
-        tables = λ h. (unchanged card t _ p q (refused h)).0;
-        kept = λ h. (unchanged card t _ p q (refused h)).1;
+        tables = λ h. (unchanged card t _ p q (refused h).is).0;
+        kept = λ h. (unchanged card t _ p q (refused h).is).1;
         as_long = call_buffer card t p q;
       }
 
@@ -66,7 +71,9 @@ module _ (card : Card) where
   audits p q t = (never, always)
     where
       never : number_of (call card (on p q) t).said.reply ≡ 15 → Audit card t → ⊥
-      never e a = omega (arith, e, one-to-nine card t a p q _ (refusal-of (call card (on p q) t).said.reply (omega (arith, e))))
+      never e a =
+          let r = refusal-of (call card (on p q) t).said.reply (omega (arith, e)) in
+          omega (arith, e, r.numbered, one-to-nine card t a p q r.by r.is)
 
       always : (Audit card t → ⊥) → number_of (call card (on p q) t).said.reply ≡ 15
       always h = by-test (passes card t) (λ e. absurd (h (sound card t e))) (λ e. rw (unaudited card t p q e))

@@ -14,8 +14,11 @@ use Rattle.wire.specs.Header.{write_of}
 use Rattle.rules.specs.declared.Settings.{Settings}
 use Rattle.rules.specs.declared.Post.{Post}
 use Rattle.rules.specs.declared.Answer.TheVariants.{Dropped, Done, Resending, Held, Resumed, Idle, Ended}
+use Rattle.std.specs.Prelude.{Result, Ok, Err}
+use Rattle.refusal.specs.declared.Refusal.{Refusal}
+use Rattle.refusal.specs.declared.Refusal.TheVariants as refusal
 use Rattle.rules.specs.declared.Reply.{Reply}
-use Rattle.rules.specs.declared.Reply.TheVariants.{Refused, Answered, First, Count}
+use Rattle.rules.specs.declared.Reply.TheVariants.{Answered, First, Count}
 use Rattle.rules.specs.Card.{Card, small}
 use Rattle.rules.specs.Message.{packets_of}
 use Rattle.rules.specs.Ranges.{bad_settings, bad_post}
@@ -45,11 +48,11 @@ settings share ceiling = record { far = 7; pkey = 65535; pmtu = 1; share = share
 abbrev sends : ℕ → Post
 sends n = record { kind = 0; immediate = false; fenced = false; ticket = n; offset = 0; length = 256 * n; address = 0; key = 0; value = 0 }
 
-abbrev replies : List Said → List Reply
+abbrev replies : List Said → List (Result Reply Refusal)
 replies ss = map (λ s. s.reply) ss
 
-abbrev done : Reply
-done = Answered Done 0 0
+abbrev done : Result Reply Refusal
+done = Ok (Answered Done 0 0)
 
 -- "one pair of share 100 holds 200, one of share 56 none, ceilings 256. One more for the first: 8. 56 for the second: accepted; 57 instead: 8. Opening a third of
 -- share 1: 8."
@@ -64,7 +67,7 @@ pub shares :
     ∷ on 2 (opening (settings 1 256) 0)
     ∷ on 1 (posting (sends 56))
     ∷ [])).said
-    ≡ done ∷ done ∷ First 0 ∷ Refused 8 ∷ Refused 8 ∷ Refused 8 ∷ First 5 ∷ []
+    ≡ done ∷ done ∷ Ok (First 0) ∷ Err refusal.Room ∷ Err refusal.Room ∷ Err refusal.Room ∷ Ok (First 5) ∷ []
 unfolding account side_at distance packets_of posted bad_settings bad_post
 shares = refl
 
@@ -103,7 +106,7 @@ abbrev four : ℕ → ℕ → ℕ → ℕ → ℕ → ℕ → List ℕ
 four len ticket hi lo high low = 0 ∷ 0 ∷ 0 ∷ len ∷ 0 ∷ 0 ∷ 0 ∷ ticket ∷ 0 ∷ 0 ∷ hi ∷ lo ∷ 0 ∷ 0 ∷ high ∷ low ∷ []
 
 pub ended-replies :
-    replies (run (call tiny) ending (called tiny half-way).last).said ≡ Count 3 ∷ Answered Ended 2 0 ∷ done ∷ []
+    replies (run (call tiny) ending (called tiny half-way).last).said ≡ Ok (Count 3) ∷ Ok (Answered Ended 2 0) ∷ done ∷ []
 unfolding call passes none_of has put pair_passes record_passes links_pass queue_passes ◌and◌ same allowed_to single opens closes goes_on bad_settings bad_post fresh
     side_at side_of slot_at pair_at relinked holding arranged distance packets_of posted emitted release acknowledge
 ended-replies = refl
@@ -141,17 +144,17 @@ reading =
 pub read-replies :
     replies (called tiny reading).said
     ≡ done
-    ∷ First 16777215
-    ∷ First 2
-    ∷ Count 2
-    ∷ Answered Done 0 1000
-    ∷ Refused 9
-    ∷ Answered Resending 0 0
-    ∷ Answered Resending 0 0
-    ∷ Answered Done 0 1256
-    ∷ Answered Done 1 1512
-    ∷ Answered Dropped 0 0
-    ∷ Answered Done 1 0
+    ∷ Ok (First 16777215)
+    ∷ Ok (First 2)
+    ∷ Ok (Count 2)
+    ∷ Ok (Answered Done 0 1000)
+    ∷ Err refusal.Response
+    ∷ Ok (Answered Resending 0 0)
+    ∷ Ok (Answered Resending 0 0)
+    ∷ Ok (Answered Done 0 1256)
+    ∷ Ok (Answered Done 1 1512)
+    ∷ Ok (Answered Dropped 0 0)
+    ∷ Ok (Answered Done 1 0)
     ∷ []
 unfolding call passes none_of has put pair_passes record_passes links_pass queue_passes ◌and◌ same allowed_to single opens closes goes_on bad_settings bad_post fresh
     side_at side_of slot_at pair_at relinked holding arranged distance packets_of posted emitted release acknowledge response
@@ -196,20 +199,20 @@ pub timers :
     ∷ on 0 (closing (replicate 8 9))
     ∷ [])).said
     ≡ done
-    ∷ First 10
-    ∷ Answered Idle 0 0
-    ∷ Count 1
-    ∷ Answered Idle 0 0
-    ∷ Answered Resending 0 0
-    ∷ Answered Held 0 0
-    ∷ Count 0
-    ∷ Answered Idle 0 0
-    ∷ Answered Resumed 0 0
-    ∷ Count 1
-    ∷ Answered Ended 1 0
-    ∷ Refused 2
+    ∷ Ok (First 10)
+    ∷ Ok (Answered Idle 0 0)
+    ∷ Ok (Count 1)
+    ∷ Ok (Answered Idle 0 0)
+    ∷ Ok (Answered Resending 0 0)
+    ∷ Ok (Answered Held 0 0)
+    ∷ Ok (Count 0)
+    ∷ Ok (Answered Idle 0 0)
+    ∷ Ok (Answered Resumed 0 0)
+    ∷ Ok (Count 1)
+    ∷ Ok (Answered Ended 1 0)
+    ∷ Err refusal.State
     ∷ done
-    ∷ Refused 2
+    ∷ Err refusal.State
     ∷ []
 unfolding call passes none_of has put pair_passes record_passes links_pass queue_passes ◌and◌ same allowed_to single opens closes goes_on bad_settings bad_post fresh
     side_at side_of slot_at pair_at relinked holding arranged distance packets_of posted emitted release acknowledge timer

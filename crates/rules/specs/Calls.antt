@@ -1,12 +1,14 @@
 -- What a call does: to the account, where no slot, link or free queue is; and to the tables, by way of the slots. Both by the same refusals and rules.
-use Rattle.std.specs.Prelude.{not, ◌&&◌, List, [], ◌∷◌, ◌++◌, ℕ, ◌+◌, eqb, length, set, drop, replicate, if◌then◌else◌}
+use Rattle.std.specs.Prelude.{not, ◌&&◌, List, [], ◌∷◌, ◌++◌, ℕ, ◌+◌, eqb, length, set, drop, replicate, Option, Some, None, Result, Ok, Err, if◌then◌else◌}
+use Rattle.refusal.specs.declared.Refusal.{Refusal}
+use Rattle.refusal.specs.declared.Refusal.TheVariants as refusal
 use Rattle.refusal.specs.Refusals.{◌gives◌, first_given}
 use Rattle.rules.specs.declared.Packet.{Packet}
 use Rattle.rules.specs.declared.Standing.{Standing}
 use Rattle.rules.specs.declared.Answer.{Answer}
 use Rattle.rules.specs.declared.Answer.TheVariants.{Dropped, Done, Resending, Held, Resumed, Idle, Ended}
 use Rattle.rules.specs.declared.Reply.{Reply}
-use Rattle.rules.specs.declared.Reply.TheVariants.{Refused, Answered, First, Count}
+use Rattle.rules.specs.declared.Reply.TheVariants.{Answered, First, Count}
 use Rattle.rules.specs.Card.{Card}
 use Rattle.rules.specs.Account.{Side, no_side, N}
 use Rattle.rules.specs.Message.{packets_of}
@@ -78,7 +80,7 @@ effect (closing b) s = reported (closing_all (length s.packets)) 0 b s
 -- ---- a step: what is said (answer and buffer), and what is next
 
 pub record Said : Type 0 where
-  pub reply : Reply
+  pub reply : Result Reply Refusal
   pub buffer : List ℕ
 
 pub record Step (A : Type 0) : Type 0 where
@@ -86,14 +88,19 @@ pub record Step (A : Type 0) : Type 0 where
   pub next : A
 
 -- "Each returns its number and leaves all tables and buffers unchanged."
-abbrev pub refuse : {A : Type 0} → ℕ → List ℕ → A → Step A
-refuse n b a = record { said = record { reply = Refused n; buffer = b }; next = a }
+abbrev pub refuse : {A : Type 0} → Refusal → List ℕ → A → Step A
+refuse r b a = record { said = record { reply = Err r; buffer = b }; next = a }
 
 abbrev pub accept : {A : Type 0} → Effect → A → Step A
-accept e a = record { said = record { reply = e.reply; buffer = e.buffer }; next = a }
+accept e a = record { said = record { reply = Ok e.reply; buffer = e.buffer }; next = a }
 
 abbrev pub started : {A : Type 0} → A → Step A
-started a = record { said = record { reply = Answered Done 0 0; buffer = [] }; next = a }
+started a = record { said = record { reply = Ok (Answered Done 0 0); buffer = [] }; next = a }
+
+-- refused where a row gives a refusal; else accepted, and n is next
+abbrev pub verdict : {A : Type 0} → Option Refusal → Effect → A → List ℕ → A → Step A
+verdict None e n b a = accept e n
+verdict (Some r) e n b a = refuse r b a
 
 -- ---- the account
 
@@ -111,9 +118,8 @@ all_closed card = replicate card.pairs no_side
 unfoldable pub account : Card → Call → List Side → Step (List Side)
 account card starting a = started (all_closed card)
 account card (on p q) a =
-    let n = first_given (refusals card q p a) in
     let e = effect q (side_at a p) in
-    if eqb n 0 then accept e (set a p (side_after e (side_at a p))) else refuse n (lent q) a
+    verdict (first_given (refusals card q p a)) e (set a p (side_after e (side_at a p))) (lent q) a
 
 -- ---- the tables
 
@@ -127,8 +133,7 @@ unfoldable pub call : Card → Call → Tables → Step Tables
 call card starting t =
     if eqb (length t.pairs) card.pairs && eqb (length t.slots) card.slots
     then started (fresh card)
-    else refuse 15 [] t
+    else refuse refusal.Audit [] t
 call card (on p q) t =
-    let n = first_given (not (passes card t) gives 15 ∷ refusals card q p (sides t)) in
     let e = effect q (side_at (sides t) p) in
-    if eqb n 0 then accept e (tables_after card.none p e.standing e.move t) else refuse n (lent q) t
+    verdict (first_given (not (passes card t) gives refusal.Audit ∷ refusals card q p (sides t))) e (tables_after card.none p e.standing e.move t) (lent q) t

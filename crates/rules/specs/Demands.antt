@@ -1,6 +1,7 @@
 -- The three demands on the requester, as statements about `call`. Their proofs are in proofs/Demands.
-use Rattle.std.specs.Prelude.{◌≡◌, ◌↔◌, ◌≢◌, false, ◌&&◌, List, [], ◌∷◌, ◌++◌, map, ℕ, ◌+◌, ◌*◌, ◌≤◌, ◌<◌, min, ltb, length, take, drop, if◌then◌else◌}
+use Rattle.std.specs.Prelude.{◌≡◌, ◌↔◌, ◌≢◌, false, ◌&&◌, List, [], ◌∷◌, ◌++◌, map, ℕ, ◌+◌, ◌*◌, ◌≤◌, ◌<◌, min, ltb, length, take, drop, None, Ok, if◌then◌else◌}
 use Rattle.psn.specs.Psn.{half, distance, before}
+use Rattle.refusal.specs.declared.Refusal.TheVariants as refusal
 use Rattle.refusal.specs.Refusals.{first_given}
 use Rattle.rules.specs.declared.Packet.{Packet}
 use Rattle.rules.specs.declared.Line.{Line}
@@ -86,7 +87,7 @@ module _ (card : Card) where
   -- "a fresh start tests only the two lengths (15)": on any tables whatever
   pub record Starts (t : Tables) : Type 0 where
     pub right : length t.pairs ≡ card.pairs → length t.slots ≡ card.slots → call card starting t ≡ started (fresh card)
-    pub wrong : (length t.pairs ≡ card.pairs → length t.slots ≡ card.slots → ⊥) → call card starting t ≡ refuse 15 [] t
+    pub wrong : (length t.pairs ≡ card.pairs → length t.slots ≡ card.slots → ⊥) → call card starting t ≡ refuse refusal.Audit [] t
 
   -- an emission that nothing is wrong with, at tables t
   pub record CanEmit (p budget : ℕ) (b : List ℕ) (t : Tables) : Type 0 where
@@ -102,7 +103,7 @@ module _ (card : Card) where
   pub record Emits (p budget : ℕ) (b : List ℕ) (s : Side) (n : Step Tables) : Type 0 where
     pub went : ℕ
     pub number : went ≡ (if ltb 0 s.standing.clock.hold then 0 else min budget (length (ending_after s)))
-    pub said : n.said.reply ≡ Count went
+    pub said : n.said.reply ≡ Ok (Count went)
     pub written : n.said.buffer ≡ emissions s.standing (take went (ending_after s)) ++ drop (record_bytes * went) b
     -- what waits then is what waited, less those that went
     pub left : ending_after (side n.next p) ≡ drop went (ending_after s)
@@ -112,7 +113,7 @@ module _ (card : Card) where
 
   pub record Demand2 : Type 0 where
     pub exact : (c : Call) (t : Tables) → Audit card t → Agree (call card c t) (account card c (sides t))
-    pub tidy : (p : ℕ) (q : Request) (t : Tables) → Audit card t → first_given (refusals card q p (sides t)) ≡ 0
+    pub tidy : (p : ℕ) (q : Request) (t : Tables) → Audit card t → first_given (refusals card q p (sides t)) ≡ None
         → Tidy p (effect q (side t p)).move t (call card (on p q) t).next
     pub starts : (t : Tables) → Starts t
     pub emits : (p budget : ℕ) (b : List ℕ) (t : Tables) → CanEmit p budget b t → Emits p budget b (side t p) (call card (on p (emitting budget b)) t)
@@ -145,7 +146,7 @@ module _ (card : Card) where
     pub ceiling : (p : ℕ) → p < card.pairs → length (queue (called card cs).last p) ≤ (side (called card cs).last p).standing.settings.ceiling
     -- "a post within its share is never refused for room": it is accepted, whatever the other pairs did
     pub room : (p : ℕ) (m : Post) → WithinShare (called card cs).last p m
-        → (call card (on p (posting m)) (called card cs).last).said.reply ≡ First (N (side (called card cs).last p))
+        → (call card (on p (posting m)) (called card cs).last).said.reply ≡ Ok (First (N (side (called card cs).last p)))
 
   abbrev pub Demand3 : Type 0
   Demand3 = (cs : List Call) → Faithful cs

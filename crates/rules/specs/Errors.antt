@@ -1,5 +1,5 @@
 -- "Errors of this trade", each as what shuts it out. Their proofs are in proofs/Errors.
-use Rattle.std.specs.Prelude.{◌≡◌, ◌≢◌, true, false, ◌&&◌, List, ◌++◌, map, ℕ, ◌≤◌, ◌<◌, length}
+use Rattle.std.specs.Prelude.{◌≡◌, ◌≢◌, true, false, ◌&&◌, List, ◌++◌, map, ℕ, ◌≤◌, ◌<◌, length, Ok}
 use Rattle.psn.specs.Psn.{psns, distance, plus, next}
 use Rattle.refusal.specs.Choice.{Each}
 use Rattle.rules.specs.declared.Packet.{Packet}
@@ -58,7 +58,7 @@ ReadsAfter r s = Each (λ (q : Packet). is_read q ≡ true → distance (U s) r 
 -- it lets go of all packets up to R and of no other, tells the tickets of their messages with status 0, answers "done", and U is past R
 pub record Acked (p r : ℕ) (b : List ℕ) (t : Tables) (n : Step Tables) : Type 0 where
   pub none-up-to : NoneUpTo p r t n.next
-  pub done : n.said.reply ≡ Answered Done (messages_of (left_with 0 none-up-to.gone)) 0
+  pub done : n.said.reply ≡ Ok (Answered Done (messages_of (left_with 0 none-up-to.gone)) 0)
   pub told : n.said.buffer ≡ overlaid (completions (left_with 0 none-up-to.gone)) b
   pub u-after : U (side n.next p) ≡ next r
 
@@ -87,7 +87,7 @@ pub record Nacked (p r : ℕ) (b : List ℕ) (answer : Answer) (t : Tables) (n :
   pub rest : (side t p).packets ≡ gone ++ (side n.next p).packets
   pub all-before : Each (BeforeR (U (side t p)) r) gone
   pub all_from : Each (FromR (U (side t p)) r) (side n.next p).packets
-  pub said : n.said.reply ≡ Answered answer (messages_of (left_with 0 gone)) 0
+  pub said : n.said.reply ≡ Ok (Answered answer (messages_of (left_with 0 gone)) 0)
   pub told : n.said.buffer ≡ overlaid (completions (left_with 0 gone)) b
   pub u-after : U (side n.next p) ≡ r
   pub x-after : X (side n.next p) ≡ r
@@ -160,6 +160,6 @@ pub record ReadsStay (p : ℕ) (t n : Tables) : Type 0 where
 abbrev pub AckKeepsReads : Card → Type 0
 AckKeepsReads card =
     (t : Tables) (p r y : ℕ) (b : List ℕ) (answer : Answer) (messages place : ℕ)
-    → (call card (on p (acknowledging r y b)) t).said.reply ≡ Answered answer messages place
+    → (call card (on p (acknowledging r y b)) t).said.reply ≡ Ok (Answered answer messages place)
     → answer ≢ Ended
     → ReadsStay p t (call card (on p (acknowledging r y b)) t).next

@@ -1,9 +1,9 @@
 -- "Demand 3's "accepted" and "released" (flushed included) are demand 2's rules run over the history since the last fresh start."
-use Rattle.std.specs.Prelude.{◌&&◌, List, [], ◌∷◌, ◌++◌, ℕ, ◌*◌, eqb, take, if◌then◌else◌}
+use Rattle.std.specs.Prelude.{◌&&◌, List, [], ◌∷◌, ◌++◌, ℕ, ◌*◌, eqb, take, is_none, if◌then◌else◌}
 use Rattle.refusal.specs.Refusals.{first_given}
 use Rattle.rules.specs.declared.Packet.{Packet}
 use Rattle.rules.specs.declared.Reply.{Reply}
-use Rattle.rules.specs.declared.Reply.TheVariants.{Refused, Answered, First, Count}
+use Rattle.rules.specs.declared.Reply.TheVariants.{Answered, First, Count}
 use Rattle.rules.specs.Card.{Card}
 use Rattle.rules.specs.Account.{Side}
 use Rattle.rules.specs.Outcome.{Departure, departures}
@@ -47,7 +47,6 @@ departs (joins qs) held = []
 -- what the host reads: ticket and status of as many messages as the answer counts, from the buffer's front
 abbrev pub heard : Reply → List ℕ → List ℕ
 heard (Answered a messages place) buffer = take (2 * messages) buffer
-heard (Refused n) buffer = []
 heard (First psn) buffer = []
 heard (Count n) buffer = []
 
@@ -64,7 +63,7 @@ module _ (card : Card) (p : ℕ) where
   unfoldable pub entry : Call → List Side → Ledger → Ledger
   entry starting a l = blank
   entry (on r q) a l =
-      if eqb r p && eqb (first_given (refusals card q p a)) 0 then entered (effect q (side_at a p)) (side_at a p).packets l else l
+      if eqb r p && is_none (first_given (refusals card q p a)) then entered (effect q (side_at a p)) (side_at a p).packets l else l
 
   abbrev pub ledger_from : List Call → List Side → Ledger → Ledger
   ledger_from [] a l = l

@@ -1,6 +1,7 @@
 -- "Refusal numbers": each number's condition, and their order as one list for every request.
 use Rattle.std.specs.Prelude.{Bool, false, not, ◌&&◌, ◌||◌, List, [], ◌∷◌, ℕ, ◌+◌, ltb, leb, eqb, length, get_or}
 use Rattle.psn.specs.Psn.{half, distance}
+use Rattle.refusal.specs.declared.Refusal.TheVariants as refusal
 use Rattle.refusal.specs.Refusals.{Row, ◌gives◌}
 use Rattle.rules.specs.declared.Packet.{Packet}
 use Rattle.rules.specs.declared.Settings.{Settings}
@@ -89,13 +90,13 @@ abbrev pub refusals : Card → Request → ℕ → List Side → List Row
 refusals card q p a =
     let s = side_at a p in
     let st = s.standing.settings in
-    leb card.pairs p gives 1
-    ∷ wrong_state q s.standing.state gives 2
-    ∷ out_of_range card q gives 3
-    ∷ ltb (length (lent q)) (needed card q) gives 4
-    ∷ of_post q (λ m. over_ceiling st m) gives 5
-    ∷ of_post q (λ m. m.fenced && any_read s.packets) gives 6
-    ∷ of_post q (λ m. ltb half (distance (U s) (N s) + psns_for st m)) gives 7
-    ∷ (of_opening q (λ new. no_room_to_open card p new a) || of_post q (λ m. no_room card p m a)) gives 8
-    ∷ of_response q (λ r opcode len. inside r s && unfit r opcode len s) gives 9
+    leb card.pairs p gives refusal.Pair
+    ∷ wrong_state q s.standing.state gives refusal.State
+    ∷ out_of_range card q gives refusal.Range
+    ∷ ltb (length (lent q)) (needed card q) gives refusal.Buffer
+    ∷ of_post q (λ m. over_ceiling st m) gives refusal.Ceiling
+    ∷ of_post q (λ m. m.fenced && any_read s.packets) gives refusal.Fence
+    ∷ of_post q (λ m. ltb half (distance (U s) (N s) + psns_for st m)) gives refusal.Distance
+    ∷ (of_opening q (λ new. no_room_to_open card p new a) || of_post q (λ m. no_room card p m a)) gives refusal.Room
+    ∷ of_response q (λ r opcode len. inside r s && unfit r opcode len s) gives refusal.Response
     ∷ []

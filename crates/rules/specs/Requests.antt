@@ -1,11 +1,13 @@
 -- What may be asked of the card, and what it answers.
-use Rattle.std.specs.Prelude.{List, [], ◌∷◌, ℕ, ◌*◌}
+use Rattle.std.specs.Prelude.{List, [], ◌∷◌, ℕ, ◌*◌, Result, Ok, Err}
+use Rattle.refusal.specs.declared.Refusal.{Refusal}
+use Rattle.refusal.specs.Numbers.{number}
 use Rattle.rules.specs.declared.Settings.{Settings}
 use Rattle.rules.specs.declared.Post.{Post}
 use Rattle.rules.specs.declared.Answer.{Answer}
 use Rattle.rules.specs.declared.Answer.TheVariants.{Dropped, Done, Resending, Held, Resumed, Idle, Ended}
 use Rattle.rules.specs.declared.Reply.{Reply}
-use Rattle.rules.specs.declared.Reply.TheVariants.{Refused, Answered, First, Count}
+use Rattle.rules.specs.declared.Reply.TheVariants.{Answered, First, Count}
 use Rattle.rules.specs.Card.{Card, completion_buffer}
 use Rattle.rules.specs.Emission.{record_bytes}
 
@@ -55,14 +57,12 @@ word_of Resumed = 4
 word_of Idle = 5
 word_of Ended = 6
 
-abbrev pub number_of : Reply → ℕ
-number_of (Refused n) = n
-number_of (Answered a messages place) = 0
-number_of (First psn) = 0
-number_of (Count packets) = 0
+abbrev pub number_of : Result Reply Refusal → ℕ
+number_of (Err r) = number r
+number_of (Ok reply) = 0
 
-abbrev pub values_of : Reply → List ℕ
-values_of (Refused n) = []
-values_of (Answered a messages place) = word_of a ∷ messages ∷ place ∷ []
-values_of (First psn) = psn ∷ []
-values_of (Count packets) = packets ∷ []
+abbrev pub values_of : Result Reply Refusal → List ℕ
+values_of (Err r) = []
+values_of (Ok (Answered a messages place)) = word_of a ∷ messages ∷ place ∷ []
+values_of (Ok (First psn)) = psn ∷ []
+values_of (Ok (Count packets)) = packets ∷ []

@@ -1,154 +1,90 @@
--- How a cursor finds the words: past the blanks nothing changes, and a run of bytes that are no blanks, with a blank or the end
--- behind it, is the first word.
+-- How the first word is found: past the blanks nothing changes, and what stands up to the next blank, or to the end, is the word.
 -- Assumes nothing.
 use mathlib.Core.Path.{◌≡◌, refl, sym, ap, ◌∙◌}
-use mathlib.Core.Bool.{Bool, true, false, not, ◌&&◌, true≢false}
-use mathlib.Core.List.{List, [], ◌∷◌, ◌++◌, nil≢cons}
-use Prim.Native.Nat.{ℕ, ◌+◌, ◌≤◌, ◌<◌}
+use mathlib.Core.Bool.{Bool, true, false, not, cond}
+use mathlib.Core.List.{List, [], ◌∷◌}
+use Prim.Native.Nat.{ℕ, suc, ◌+◌, ◌-◌, ◌≤◌, ◌<◌}
 use native.Mathlib.Omega.{arith}
-use native.Mathlib.Nat.{not-suc-le-zero, not-le_of_lt, lt_irrefl}
-use borrow.Author.Tests.{not-true}
-use native.Mathlib.Numerals.{add-one}
+use native.Mathlib.Numerals.{one-add}
+use native.Mathlib.Nat.{le_refl}
+use borrow.Author.Tests.{not-true, lt-ltb, le-ltb}
 use native.Mathlib.Decide.{dec_lt}
-use lib.ListN.{length, get_or, drop, drop_of_length-le}
-use lib.Seq.{drop-cons}
+use lib.ListN.{length, get_or, take, drop, drop_of_length-le, length-drop}
+use lib.Seq.{take_all}
+use Rattle.std.specs.Prelude.{Option, Some, None, unwrap_or, position}
+use Rattle.std.specs.List.{position_or_len}
+use Rattle.std.proofs.lemmas.List.Quantifiers.{position-Some}
+use Rattle.std.proofs.lemmas.Option.{cond_some}
 use Rattle.text.specs.Words.{blank, goes_on, onto, words}
-use Rattle.text.specs.Inner.{part, Skipped, Stopped, Told}
-use Rattle.refusal.proofs.Cases.{and_left, and_right}
-use Rattle.text.proofs.Parts.{part-split, part-empty, part-more, part_length}
+use Rattle.refusal.proofs.Cases.{by-test}
+use Rattle.text.proofs.Parts.{drop_at}
 
--- none of them is a blank
-abbrev pub plain : List ℕ → Bool
-plain [] = true
-plain (b ∷ bs) = not (blank b) && plain bs
+abbrev plain : ℕ → Bool
+plain b = not (blank b)
 
-plain-snoc : (p : List ℕ) (b : ℕ) → plain p ≡ true → blank b ≡ false → plain (p ++ (b ∷ [])) ≡ true
-plain-snoc [] b h k = rw k
-plain-snoc (c ∷ p) b h k = rw (and_left (not (blank c)) (plain p) h) (plain-snoc p b (and_right (not (blank c)) (plain p) h) k)
-
-word-begins : (b : ℕ) (r : List ℕ) → blank b ≡ false → goes_on r ≡ false → words (b ∷ r) ≡ (b ∷ []) ∷ words r
+past : (l : List ℕ) → words (drop (position_or_len plain l) l) ≡ words l
 unfolding words
-word-begins b r h e = rw (h, e)
+past [] = refl
+past (b ∷ l) = by-test (blank b) (λ e. rw (e, one-add) (past l)) (λ e. rw (e, e))
+
+within : (p : ℕ → Bool) (l : List ℕ) → position_or_len p l ≤ length l
+within p [] = le_refl 0
+within p (b ∷ l) = go (p b) (within p l)
+  where
+    go : (t : Bool) → position_or_len p l ≤ length l → cond (not t) (1 + position_or_len p l) 0 ≤ suc (length l)
+    go true h = omega arith
+    go false h = omega arith
+
+-- up to the next blank, or to the end
+end-is : (p : ℕ → Bool) (l : List ℕ) → unwrap_or (position p l) (length l) ≡ position_or_len p l
+end-is p l = go (dec_lt (position_or_len p l) (length l))
+  where
+    go : Dec (position_or_len p l < length l) → unwrap_or (position p l) (length l) ≡ position_or_len p l
+    go (yes h) = rw (lt-ltb (position_or_len p l) (length l) h)
+    go (no h) =
+        let all : length l ≡ position_or_len p l = omega (arith, within p l) in
+        rw (le-ltb (position_or_len p l) (length l) (omega arith)) all
+
+abbrev cut : List ℕ → ℕ → List (List ℕ)
+cut l k = take k l ∷ words (drop k l)
+
+goes : (b : ℕ) (r : List ℕ) → blank b ≡ false → position_or_len blank (b ∷ r) ≡ suc (position_or_len blank r)
+goes b r e = rw e (one-add (position_or_len blank r))
+
+stops : (b : ℕ) (r : List ℕ) → blank b ≡ true → position_or_len blank (b ∷ r) ≡ 0
+stops b r e = rw e
+
+word-ends : (b : ℕ) (r : List ℕ) → blank b ≡ false → goes_on r ≡ false → words (b ∷ r) ≡ (b ∷ []) ∷ words r
+unfolding words
+word-ends b r h e = rw (h, e)
 
 word-goes-on : (b c : ℕ) (r : List ℕ) → blank b ≡ false → blank c ≡ false → words (b ∷ c ∷ r) ≡ onto b (words (c ∷ r))
 unfolding words
 word-goes-on b c r h k = rw (h, k)
 
-head_plain : (b : ℕ) (p : List ℕ) → plain (b ∷ p) ≡ true → blank b ≡ false
-head_plain b p q = not-true (blank b) (and_left (not (blank b)) (plain p) q)
+word-is : (b : ℕ) (r : List ℕ) → blank b ≡ false → words (b ∷ r) ≡ cut (b ∷ r) (position_or_len blank (b ∷ r))
+word-is b [] e = word-ends b [] e refl ∙ ap (cut (b ∷ [])) (sym (goes b [] e))
+word-is b (c ∷ r) e =
+    by-test (blank c) (λ f. word-ends b (c ∷ r) e (ap not f) ∙ ap (cut (b ∷ c ∷ r)) (sym (goes b (c ∷ r) e ∙ ap suc (stops c r f))))
+    (λ f. word-goes-on b c r e f ∙ ap (onto b) (word-is c r f) ∙ ap (cut (b ∷ c ∷ r)) (sym (goes b (c ∷ r) e)))
 
-tail-plain : (b : ℕ) (p : List ℕ) → plain (b ∷ p) ≡ true → plain p ≡ true
-tail-plain b p q = and_right (not (blank b)) (plain p) q
-
--- a run that is no blank is the first word, where a word does not go on behind it
-run-is-word : (p r : List ℕ) → 0 < length p → plain p ≡ true → goes_on r ≡ false → words (p ++ r) ≡ p ∷ words r
-run-is-word [] r h q e = absurd (not-suc-le-zero h)
-run-is-word (b ∷ []) r h q e = word-begins b r (head_plain b [] q) e
-run-is-word (b ∷ c ∷ p) r h q e =
-    word-goes-on b c (p ++ r) (head_plain b (c ∷ p) q) (head_plain c p (tail-plain b (c ∷ p) q))
-    ∙ ap (onto b) (run-is-word (c ∷ p) r (omega arith) (tail-plain b (c ∷ p) q) e)
-
--- ---- past the blanks
-
--- from `from` up to i stand blanks alone
-pub record Past (l : List ℕ) (from i : ℕ) : Type 0 where
-  pub low : from ≤ i
-  pub high : i ≤ length l
-  pub same : words (drop from l) ≡ words (drop i l)
-
-module _ {l : List ℕ} {from : ℕ} where
-  pub past-start : from ≤ length l → Past l from from
-  past-start h = record { low = omega arith; high = h; same = refl }
-
-  pub past_more : {i : ℕ} → Past l from i → i < length l → blank (get_or l i 0) ≡ true → Past l from (i + 1)
-  unfolding words
-  past_more {i} p h e =
-      let step : words (drop i l) ≡ words (drop (i + 1) l) = rw (add-one, drop-cons l i 0, e) in
-      record { low = omega arith; high = omega arith; same = p.same ∙ step }
-
-  pub past-found : {i : ℕ} → Past l from i → blank (get_or l i 0) ≡ false → Skipped l from i
-  past-found p e = record { low = p.low; high = p.high; same = p.same; stands = λ _. e }
-
-  pub past_end : {i : ℕ} → Past l from i → length l ≤ i → Skipped l from i
-  past_end p h = record { low = p.low; high = p.high; same = p.same; stands = λ k. absurd (not-le_of_lt k h) }
-
--- ---- past the word
-
--- from `from` up to i stands no blank
-pub record Run (l : List ℕ) (from i : ℕ) : Type 0 where
-  pub low : from ≤ i
-  pub high : i ≤ length l
-  pub run : plain (part l from i) ≡ true
-
-module _ {l : List ℕ} {from : ℕ} where
-  pub run-start : from ≤ length l → Run l from from
-  run-start h = record { low = omega arith; high = h; run = rw (part-empty l from) }
-
-  pub run_more : {i : ℕ} → Run l from i → i < length l → blank (get_or l i 0) ≡ false → Run l from (i + 1)
-  run_more {i} p h e =
-      let more : plain (part l from (i + 1)) ≡ true = rw (part-more l from i p.low h) (plain-snoc (part l from i) (get_or l i 0) p.run e) in
-      record { low = omega arith; high = omega arith; run = more }
-
-  run-stops : {i : ℕ} → Run l from i → goes_on (drop i l) ≡ false → from < i → words (drop from l) ≡ part l from i ∷ words (drop i l)
-  run-stops {i} p s h =
-      let some : 0 < length (part l from i) = omega (arith, part_length l from i p.high) in
-      ap words (part-split l from i p.low) ∙ run-is-word (part l from i) (drop i l) some p.run s
-
-  pub run-found : {i : ℕ} → Run l from i → i < length l → blank (get_or l i 0) ≡ true → Stopped l from i
-  run-found {i} p h e =
-      let stops : goes_on (drop i l) ≡ false = rw (drop-cons l i 0, e) in
-      record { low = p.low; high = p.high; moved = λ _ f. moves f; word = run-stops p stops }
-    where
-      moves : blank (get_or l from 0) ≡ false → from < i
-      moves f =
-          let other : from ≡ i → ⊥ = λ q. true≢false (sym e ∙ ap (λ (k : ℕ). blank (get_or l k 0)) (sym q) ∙ f) in
-          omega arith
-
-  pub run_end : {i : ℕ} → Run l from i → length l ≤ i → Stopped l from i
-  run_end {i} p h =
-      let stops : goes_on (drop i l) ≡ false = rw (drop_of_length-le l h) in
-      record { low = p.low; high = p.high; moved = λ k _. omega arith; word = run-stops p stops }
-
--- ---- the next word
-
-pub told : {l : List ℕ} {from s e : ℕ} → Skipped l from s → Stopped l s e → Told l from s e
+pub no-word : (l : List ℕ) → None ≡ position plain l → words l ≡ []
 unfolding words
-told {l} {from} {s} {e} p q =
-    record {
-      low = q.low;
-      high = q.high;
-      skipped = p.same;
-      some = λ h. p.same ∙ q.word h;
-      none = λ h. p.same ∙ ap words (drop_of_length-le l (ends h));
-    }
+no-word l e = go (dec_lt (position_or_len plain l) (length l))
   where
-    ends : s ≡ e → length l ≤ s
-    ends h =
-        let no_more : s < length l → ⊥ = λ k. lt_irrefl e (rw h at (q.moved k (p.stands k))) in
-        omega arith
+    go : Dec (position_or_len plain l < length l) → words l ≡ []
+    go (yes h) = let no : ◌≡◌ {A = Option ℕ} None (Some (position_or_len plain l)) = e ∙ rw (lt-ltb (position_or_len plain l) (length l) h) in cc
+    go (no h) = sym (past l) ∙ ap words (drop_of_length-le l (omega arith))
 
--- the second word is the next after the next
-pub second_word : {l : List ℕ} {s e s' e' : ℕ} → Told l 0 s e → Told l e s' e' → part l s' e' ≡ get_or (words l) 1 []
-second_word {l} {s} {e} {s'} {e'} t u = go (dec_lt s e) (dec_lt s' e')
-  where
-    second : List (List ℕ) → List ℕ
-    second ws = get_or ws 1 []
+pub first-word : (l r : List ℕ) (s e : ℕ) {o : Option ℕ} → Some s ≡ position plain l → r ≡ drop s l → o ≡ position blank r → e ≡ unwrap_or o (length r)
+    → words l ≡ cut r e
+first-word l r s e {o} h k p n =
+    let at = position-Some plain l s 0 (sym h) in
+    let start : position_or_len plain l ≡ s = (cond_some _ _ _ (sym h)).1 in
+    let end : e ≡ position_or_len blank r = n ∙ ap (λ (x : Option ℕ). unwrap_or x (length r)) p ∙ end-is blank r in
+    let first : words l ≡ words r = sym (past l) ∙ ap (λ (k : ℕ). words (drop k l)) start ∙ ap words (sym k) in
+    let split : r ≡ get_or l s 0 ∷ drop (s + 1) l = k ∙ drop_at l s (get_or l s 0) at.0 refl in
+    first ∙ rw (end, split) (word-is (get_or l s 0) (drop (s + 1) l) (not-true (blank (get_or l s 0)) at.1))
 
-    after_first : List (List ℕ) → List (List ℕ)
-    after_first ws = part l s e ∷ ws
-
-    none-there : (s' < e' → ⊥) → part l s' e' ≡ []
-    none-there h =
-        let same : e' ≡ s' = omega (arith, u.low) in
-        ap (part l s') same ∙ part-empty l s'
-
-    go : Dec (s < e) → Dec (s' < e') → part l s' e' ≡ get_or (words l) 1 []
-    go (yes h) (yes k) = sym (ap second (t.some h ∙ ap after_first (u.some k)))
-    go (yes h) (no k) =
-        none-there k
-        ∙ sym (ap second (t.some h ∙ ap after_first (u.none (omega (arith, u.low)))))
-    go (no h) (yes k) = absurd (nil≢cons (sym (t.none ended) ∙ t.skipped ∙ ap (λ (j : ℕ). words (drop j l)) ended ∙ u.some k))
-      where
-        ended : s ≡ e
-        ended = omega (arith, t.low)
-    go (no h) (no k) = none-there k ∙ sym (ap second (t.none (omega (arith, t.low))))
+pub rest-is : (l : List ℕ) (s : ℕ) → take (length l - s) (drop s l) ≡ drop s l
+rest-is l s = take_all (length l - s) (drop s l) (omega (arith, length-drop s l))

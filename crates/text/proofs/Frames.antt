@@ -9,6 +9,7 @@ use native.Mathlib.Decide.{dec_lt}
 use native.Mathlib.Nat.{le_trans}
 use lib.Dec.{leb, eqb}
 use lib.ListN.{length, get_or}
+use Rattle.std.specs.Prelude.{Option, Some, None}
 use Rattle.text.specs.declared.Ask.{Ask}
 use Rattle.text.specs.declared.Ask.TheVariants.{Nothing, Unread, Fresh, Open, Post, Emit, Ack, Response, Timer, Close, Room, Show, Free, Write, Read}
 use Rattle.text.specs.declared.Parsed.{Parsed}
@@ -16,7 +17,7 @@ use Rattle.text.specs.declared.Follow.TheVariants.{Numbers, Sizes, Hex}
 use Rattle.text.specs.Text.{same}
 use Rattle.text.specs.Words.{blank, goes_on, onto, words}
 use Rattle.text.specs.Hex.{is_hex, octets}
-use Rattle.text.specs.Line.{alone, Numerals, these, none, numbers_of, given, limited, called, Entry, entry, table, asked, asked_of, parsed_of}
+use Rattle.text.specs.Line.{alone, numbers_of, given, limited, called, Entry, entry, table, asked, asked_of, parsed_of}
 use Rattle.text.proofs.Decoding.{octets-length}
 use Rattle.text.proofs.Lines.{too_long, short}
 
@@ -65,9 +66,9 @@ is_read Write = false
 other : (a : Ask) → is_read a ≡ false → a ≡ Read → ⊥
 other a h e = true≢false (sym (ap is_read e) ∙ h)
 
-given-other : (a : Ask) (m : Numerals) → is_read a ≡ false → (given a m).ask ≡ Read → ⊥
-given-other a none h = other Unread refl
-given-other a (these ns) h = other a h
+given-other : (a : Ask) (m : Option (List ℕ)) → is_read a ≡ false → (given a m).ask ≡ Read → ⊥
+given-other a None h = other Unread refl
+given-other a (Some ns) h = other a h
 
 limited-other : (x y : ℕ) (p : Parsed) → (p.ask ≡ Read → ⊥) → (limited x y p).ask ≡ Read → ⊥
 limited-other x y p h = go (leb (get_or p.args 0 0) x && leb (get_or p.args 1 0) y)
@@ -154,8 +155,8 @@ read_short l e = go (dec_lt 20000 (length l))
     go (yes h) = absurd (other Unread refl (ap (λ (p : Parsed). p.ask) (too_long l h) ∙ e))
     go (no h) = omega arith
 
-pub read-hex : (l : List ℕ) → (parsed_of l).ask ≡ Read → is_hex (get_or (words l) 1 []) ≡ true
-read-hex l e = asked_of-reads (words l) (subst (λ (p : Parsed). p.ask ≡ Read) (short l (read_short l e)) e)
+pub read_hex : (l : List ℕ) → (parsed_of l).ask ≡ Read → is_hex (get_or (words l) 1 []) ≡ true
+read_hex l e = asked_of-reads (words l) (subst (λ (p : Parsed). p.ask ≡ Read) (short l (read_short l e)) e)
 
 pub read_fits : (l : List ℕ) → (parsed_of l).ask ≡ Read → length (octets (get_or (words l) 1 [])) ≤ 10000
 read_fits l e = omega (arith, octets-length (get_or (words l) 1 []), word-short l 1, read_short l e)

@@ -1,14 +1,10 @@
 pub mod Asking
 pub mod Cursor
 pub mod Decoding
-pub mod Digits
 pub mod Frames
-pub mod Keyed
 pub mod Lines
-pub mod Matching
 pub mod Numbers
 pub mod Parts
-pub mod Places
 pub mod Putting
 pub mod Rounds
 pub mod Spelling

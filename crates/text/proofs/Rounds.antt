@@ -1,6 +1,6 @@
 -- What is written is read again as it was. Assumes nothing.
-use mathlib.Core.Path.{◌≡◌, refl, sym, ap₂, ◌∙◌}
-use mathlib.Core.Bool.{Bool, true, false, cond, ◌&&◌, or-true}
+use mathlib.Core.Path.{◌≡◌, refl, sym, ap, ap₂, ◌∙◌}
+use mathlib.Core.Bool.{Bool, true, false, cond, ◌&&◌, or-true, true≢false}
 use mathlib.Core.List.{List, [], ◌∷◌, ◌++◌}
 use Prim.Native.Nat.{ℕ, zero, suc, ◌+◌, ◌-◌, ◌*◌, ◌/◌, ◌%◌, ◌^◌, ◌<◌}
 use native.Mathlib.Omega.{arith}
@@ -8,8 +8,9 @@ use native.Mathlib.Decide.{dec_lt}
 use lib.Dec.{ltb, eqb}
 use lib.ListN.{length, get_or, get_or-append}
 use native.Mathlib.Nat.{pow-suc, suc-ne-zero}
-use borrow.Author.Tests.{lt-ltb, le-ltb, le-leb, eq-eqb, eqb-true}
-use Rattle.text.specs.declared.Number.TheVariants.{Is}
+use borrow.Author.Tests.{lt-ltb, le-ltb, le-leb, eq-eqb, ne_eqb, eqb-true}
+use Rattle.std.specs.Prelude.{Option, Some, None, is_some, unwrap_or}
+use Rattle.std.specs.Option.{option_eq}
 use Rattle.text.specs.Number.{digit, digits, value, number_of}
 use Rattle.text.specs.Hex.{nibble, hex_digits, is_hex, octets, glyph, lower, hex_text}
 use Rattle.text.specs.Out.{decimal_in, decimal}
@@ -68,10 +69,10 @@ decimal-some k n = go (ltb n 10)
     go false = snoc-some (48 + n % 10) (decimal_in k (n / 10))
 
 -- a number is read from its digits
-pub decimal-read : (n : ℕ) → n < 2 ^ 64 → number_of (decimal n) ≡ Is n
+pub decimal-read : (n : ℕ) → n < 2 ^ 64 → number_of (decimal n) ≡ Some n
 decimal-read n h =
     let is : value 0 (decimal n) ≡ n = decimal-value 20 n (omega arith) in
-    (reading-start (decimal n) (decimal-some 19 n)).same
+    (reading-start (decimal n) (ne_eqb _ _ (decimal-some 19 n))).same
     ∙ rw (decimal-digits 20 n, is, lt-ltb n (2 ^ 64) h)
 
 one-digit : (n : ℕ) (more : List ℕ) → n < 10 → get_or (cond (ltb n 10) ((48 + n) ∷ []) more) 0 0 ≡ 48 → n ≡ 0
@@ -101,15 +102,19 @@ decimal-fewest n h e = fewest-in 19 n (omega arith) e
 -- ---- bytes
 
 back : ℕ → Bool
-back d = eqb (nibble (glyph d)) d
+back d = option_eq eqb (nibble (glyph d)) (Some d)
 
 all_back : every_below back 16 ≡ true
 unfolding back
 all_back = refl
 
-nibble-glyph : (d : ℕ) → d < 16 → nibble (glyph d) ≡ d
+same-digit : (o : Option ℕ) (d : ℕ) → option_eq eqb o (Some d) ≡ true → o ≡ Some d
+same-digit None d e = absurd (true≢false (sym e))
+same-digit (Some x) d e = ap Some (eqb-true x d e)
+
+nibble-glyph : (d : ℕ) → d < 16 → nibble (glyph d) ≡ Some d
 unfolding back
-nibble-glyph d h = eqb-true (nibble (glyph d)) d (below-every back 16 all_back d h)
+nibble-glyph d h = same-digit (nibble (glyph d)) d (below-every back 16 all_back d h)
 
 octets-lower : (bs : List ℕ) → ((k : ℕ) → get_or bs k 0 < 256) → octets (lower bs) ≡ bs
 unfolding octets lower
@@ -117,7 +122,7 @@ octets-lower [] h = refl
 octets-lower (b ∷ bs) h =
     let small : b < 256 = h 0 in
     let whole : b / 16 * 16 + b % 16 ≡ b = omega arith in
-    ap₂ ◌∷◌ (ap₂ (λ (x y : ℕ). x * 16 + y) (nibble-glyph (b / 16) (omega arith)) (nibble-glyph (b % 16) (omega arith)) ∙ whole)
+    ap₂ ◌∷◌ (ap₂ (λ (x y : Option ℕ). unwrap_or x 16 * 16 + unwrap_or y 16) (nibble-glyph (b / 16) (omega arith)) (nibble-glyph (b % 16) (omega arith)) ∙ whole)
     (octets-lower bs (λ k. h (suc k)))
 
 -- bytes are read from their digits
@@ -132,12 +137,12 @@ lower-even [] = refl
 lower-even (b ∷ bs) = omega (arith, lower-even bs)
 
 lower-digits : (bs : List ℕ) → ((k : ℕ) → get_or bs k 0 < 256) → hex_digits (lower bs) ≡ true
-unfolding hex_digits lower
+unfolding lower
 lower-digits [] h = refl
 lower-digits (b ∷ bs) h =
     let small : b < 256 = h 0 in
-    rw (nibble-glyph (b / 16) (omega arith), nibble-glyph (b % 16) (omega arith), lt-ltb (b / 16) 16 (omega arith), lt-ltb (b % 16) 16 (omega arith))
-    (lower-digits bs (λ k. h (suc k)))
+    ap₂ (λ (x y : Option ℕ). is_some x && (is_some y && hex_digits (lower bs))) (nibble-glyph (b / 16) (omega arith)) (nibble-glyph (b % 16) (omega arith))
+    ∙ lower-digits bs (λ k. h (suc k))
 
 pub hex-is : (bs : List ℕ) → ((k : ℕ) → get_or bs k 0 < 256) → is_hex (hex_text bs) ≡ true
 hex-is [] h = refl

@@ -1,28 +1,18 @@
 -- How a number is spelt in decimal, and bytes in hexadecimal. Assumes nothing.
 use mathlib.Core.Path.{◌≡◌, refl, sym, ap, ◌∙◌}
+use mathlib.Core.Bool.{false, true≢false}
 use mathlib.Core.List.{List, [], ◌∷◌, ◌++◌}
 use Prim.Native.Nat.{ℕ, zero, suc, ◌+◌, ◌-◌, ◌/◌, ◌%◌, ◌≤◌, ◌<◌}
 use native.Mathlib.Omega.{arith}
-use native.Mathlib.Nat.{suc-ne-zero}
+use lib.Dec.{eqb}
 use lib.ListN.{length, get_or, drop}
-use borrow.Author.Tests.{lt-ltb, le-ltb}
+use borrow.Author.Tests.{le-ltb}
 use Rattle.text.specs.Hex.{octet_text, lower, hex_text}
 use Rattle.text.specs.Out.{Out, put_byte, put_all, decimal_in}
 use Rattle.text.proofs.Parts.{drop_at}
 use Rattle.text.proofs.Putting.{put-append, put_one}
 
 -- ---- decimal
-
-pub no-places : (o : Out) (p n : ℕ) → p ≡ 0 → o ≡ put_all o (decimal_in p n)
-unfolding put_all decimal_in
-no-places o p n e = rw e
-
-pub one-digit : (o : Out) (p n : ℕ) {d : ℕ} {q : Out} → (p ≡ 0 → ⊥) → n < 10 → d ≡ 48 + n % 10 → q ≡ put_byte o d → q ≡ put_all o (decimal_in p n)
-unfolding decimal_in
-one-digit o zero n z h e i = absurd (z refl)
-one-digit o (suc p) n {d} z h e i =
-    let same : d ≡ 48 + n = omega (arith, e) in
-    i ∙ ap (put_byte o) same ∙ sym (put_one o (48 + n)) ∙ rw (lt-ltb n 10 h)
 
 pub more-digits : (o : Out) (p n : ℕ) {d : ℕ} {m q : Out} → (p ≡ 0 → ⊥) → 10 ≤ n → m ≡ put_all o (decimal_in (p - 1) (n / 10)) → d ≡ 48 + n % 10
     → q ≡ put_byte m d → q ≡ put_all o (decimal_in p n)
@@ -46,10 +36,6 @@ pub lower-none : lower [] ≡ []
 unfolding lower
 lower-none = refl
 
-pub text-none : (s : List ℕ) → length s ≡ 0 → hex_text s ≡ 45 ∷ []
-text-none [] e = refl
-text-none (b ∷ s) e = absurd (suc-ne-zero (length s) e)
-
-pub text-some : (s : List ℕ) → (length s ≡ 0 → ⊥) → lower s ≡ hex_text s
-text-some [] h = absurd (h refl)
+pub text-some : (s : List ℕ) → eqb (length s) 0 ≡ false → lower s ≡ hex_text s
+text-some [] h = absurd (true≢false h)
 text-some (b ∷ s) h = refl

@@ -1,13 +1,11 @@
 -- What a line asks, from "Reading" and "Calls" of the trace protocol. Assumes nothing.
-use Rattle.std.specs.Prelude.{ℕ, zero, suc, ◌-◌, ◌&&◌, List, [], ◌∷◌, ◌++◌, leb, ltb, eqb, length, get_or, replicate, if◌then◌else◌}
+use Rattle.std.specs.Prelude.{ℕ, zero, suc, ◌-◌, ◌&&◌, List, [], ◌∷◌, ◌++◌, Option, None, Some, leb, ltb, eqb, length, get_or, replicate, if◌then◌else◌}
 use Prim.Native.String.{String}
-use Rattle.text.specs.declared.Number.{Number}
-use Rattle.text.specs.declared.Number.TheVariants.{Is, Not}
 use Rattle.text.specs.declared.Ask.{Ask}
 use Rattle.text.specs.declared.Ask.TheVariants.{Nothing, Unread, Fresh, Open, Post, Emit, Ack, Response, Timer, Close, Room, Show, Free, Write, Read}
 use Rattle.text.specs.declared.Parsed.{Parsed}
 use Rattle.text.specs.declared.Follow.{Follow}
-use Rattle.text.specs.declared.Follow.TheVariants.{Numbers, Sizes, Hex, Unknown}
+use Rattle.text.specs.declared.Follow.TheVariants.{Numbers, Sizes, Hex}
 use Rattle.text.specs.declared.Row.{Row}
 use Rattle.text.specs.Text.{bytes, same}
 use Rattle.text.specs.Words.{words}
@@ -19,26 +17,25 @@ alone a = record { ask = a; args = replicate 11 0 }
 
 -- ---- the words that follow the first
 
--- numbers, or not all of them are
-pub data Numerals : Type 0 where
-  these : List ℕ → Numerals
-  none : Numerals
-
-abbrev pub with_number : Number → Numerals → Numerals
-with_number Not ns = none
-with_number (Is n) none = none
-with_number (Is n) (these ns) = these (n ∷ ns)
+abbrev pub with_number : Option ℕ → Option (List ℕ) → Option (List ℕ)
+with_number None ns = None
+with_number (Some n) None = None
+with_number (Some n) (Some ns) = Some (n ∷ ns)
 
 -- "a missing or extra word, a number over 2^64 − 1, a word that is no number .. where one stands": just so many words, all numbers
-unfoldable pub numbers_of : ℕ → List (List ℕ) → Numerals
-numbers_of zero [] = these []
-numbers_of zero (w ∷ ws) = none
-numbers_of (suc n) [] = none
+unfoldable pub numbers_of : ℕ → List (List ℕ) → Option (List ℕ)
+numbers_of zero [] = Some []
+numbers_of zero (w ∷ ws) = None
+numbers_of (suc n) [] = None
 numbers_of (suc n) (w ∷ ws) = with_number (number_of w) (numbers_of n ws)
 
-abbrev pub given : Ask → Numerals → Parsed
-given a none = alone Unread
-given a (these ns) = record { ask = a; args = ns ++ replicate (11 - length ns) 0 }
+-- the numbers in their array, with zeros behind them
+abbrev pub padded : List ℕ → List ℕ
+padded ns = ns ++ replicate (11 - length ns) 0
+
+abbrev pub given : Ask → Option (List ℕ) → Parsed
+given a None = alone Unread
+given a (Some ns) = record { ask = a; args = padded ns }
 
 -- "(at most 8,192 and 2,048, else `unread L`)"
 abbrev pub limited : ℕ → ℕ → Parsed → Parsed
@@ -54,7 +51,6 @@ abbrev pub called_by : Follow → Ask → List (List ℕ) → Parsed
 called_by (Numbers n) a ws = given a (numbers_of n ws)
 called_by (Sizes x y) a ws = limited x y (given a (numbers_of 2 ws))
 called_by Hex a ws = given_hex a ws
-called_by Unknown a ws = alone Unread
 
 abbrev pub called : Row → List (List ℕ) → Parsed
 called r ws = called_by r.follow r.ask ws

@@ -1,5 +1,6 @@
 -- Texts as bytes. Assumes nothing.
-use Rattle.std.specs.Prelude.{ℕ, Bool, true, false, ◌&&◌, List, [], ◌∷◌, eqb}
+use Rattle.std.specs.Prelude.{ℕ, Bool, List, [], ◌∷◌}
+use Rattle.std.specs.Str.{bytes_eq}
 use Prim.Native.Char.{code}
 use Prim.Native.String.{String, [] as done, ◌∷◌ as ◌before◌}
 
@@ -10,7 +11,4 @@ bytes (c before s) = code c ∷ bytes s
 
 -- are the two the same bytes?
 abbrev pub same : List ℕ → List ℕ → Bool
-same [] [] = true
-same [] (y ∷ ys) = false
-same (x ∷ xs) [] = false
-same (x ∷ xs) (y ∷ ys) = eqb x y && same xs ys
+same a b = bytes_eq a b

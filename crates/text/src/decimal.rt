@@ -2,37 +2,19 @@
 ghost use Rattle.std.specs.Prelude.{◌≡◌};
 ghost use Rattle.text.specs.Number.{number_of};
 
-use crate::Number;
-
-fn wide(b: u8) -> u64
-    ensures { result ≡ b }
-{
-    b as u64
-}
-
-pub(crate) fn number(word: &[u8]) -> Number
+// Not `str::parse`: it takes "+5", and a line's bytes need not be UTF-8.
+pub(crate) fn number(word: &[u8]) -> Option<u64>
     ensures { result ≡ number_of word.now }
 {
-    if word.len() == 0 {
-        return Number::Not;
+    if word.is_empty() {
+        return None;
     }
     let mut n: u64 = 0;
-    let mut i = 0;
-    while i < word.len() {
-        let b = wide(word[i]);
-        if b < 48 {
-            return Number::Not;
+    for b in word {
+        if !b.is_ascii_digit() {
+            return None;
         }
-        if b > 57 {
-            return Number::Not;
-        }
-        let d = b - 48;
-        // n * 10 + d would be over the largest.
-        if n > (u64::MAX - d) / 10 {
-            return Number::Not;
-        }
-        n = n * 10 + d;
-        i += 1;
+        n = n.checked_mul(10)?.checked_add(u64::from(*b - b'0'))?;
     }
-    Number::Is(n)
+    Some(n)
 }

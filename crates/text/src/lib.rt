@@ -6,24 +6,18 @@ mod calls;
 mod decimal;
 mod hex;
 mod line;
-mod print;
+mod page;
 mod words;
 
-pub use hex::{decode, put_hex};
+pub use hex::decode;
 pub use line::parse;
-pub use print::{put, put_decimal};
+pub use page::Out;
 pub use words::{argument, front};
 
-// What a word is that stands where a number should.
-#[derive(Clone, Copy)]
-pub enum Number {
-    Is(u64),
-    Not,
-}
-
 // What a line asks for.
-#[derive(Clone, Copy)]
+#[derive(Clone, Copy, Debug, PartialEq, Eq)]
 pub enum Ask {
+    // A blank line or a comment. One of the things that a line may ask, with an answer of its own: none.
     Nothing,
     Unread,
     Fresh,
@@ -42,40 +36,25 @@ pub enum Ask {
 }
 
 // The call and its numbers, in order, with zeros behind them.
-#[derive(Clone, Copy)]
+#[derive(Clone, Copy, Debug, PartialEq, Eq)]
 pub struct Parsed {
     pub ask: Ask,
+    // As many as a call may have, with no count beside them: the call says how many are meant.
     pub args: [u64; 11],
 }
 
 // What follows a call's first word.
-#[derive(Clone, Copy)]
+#[derive(Clone, Copy, Debug, PartialEq, Eq)]
 pub enum Follow {
     // So many numbers.
     Numbers(usize),
     // Two numbers, each with its largest.
     Sizes(u64, u64),
     Hex,
-    // It is no call's first word.
-    Unknown,
 }
 
-#[derive(Clone, Copy)]
+#[derive(Clone, Copy, Debug, PartialEq, Eq)]
 pub struct Row {
     pub ask: Ask,
     pub follow: Follow,
-}
-
-// How many bytes a HEX has put into a buffer.
-#[derive(Clone, Copy)]
-pub enum Filled {
-    Bytes(usize),
-    None,
-}
-
-// Where a word stands in a line: from `start` up to, not including, `end`.
-#[derive(Clone, Copy)]
-pub struct Span {
-    pub start: usize,
-    pub end: usize,
 }

@@ -1,70 +1,50 @@
-// Words separated by spaces or tabs, found one after the other with a cursor.
-ghost use Rattle.std.specs.Prelude.{◌≡◌, [], ◌≤◌, length, get_or, take};
+// Words separated by spaces or tabs.
+ghost use Rattle.std.specs.Prelude.{◌≡◌, [], ◌∷◌, get_or, take, not, position, MatchOption};
 ghost use Rattle.text.specs.Words.{blank, words};
-ghost use Rattle.text.specs.Inner.{Skipped, Stopped, Told};
-
-use crate::Span;
 
 fn is_blank(b: u8) -> bool
     ensures { result ≡ blank b }
 {
-    if b == b' ' { true } else { b == b'\t' }
+    matches!(b, b' ' | b'\t')
 }
 
-// The first place from `from` on that has no blank, or the end.
-fn skip_blanks(line: &[u8], from: usize) -> usize
-    requires { from ≤ length line.now }
-    ensures { Skipped line.now from result }
+// Apart from `next_word`, since a search that a `?` follows is known by its contract alone.
+fn word_start(line: &[u8]) -> Option<usize>
+    ensures { result ≡ position (λ b. not (blank b)) line.now }
 {
-    let mut i = from;
-    while i < line.len() {
-        if !is_blank(line[i]) {
-            return i;
-        }
-        i += 1;
-    }
-    i
+    line.iter().position(|b| !is_blank(*b))
 }
 
-// The first place from `from` on that has a blank, or the end.
-fn find_blank(line: &[u8], from: usize) -> usize
-    requires { from ≤ length line.now }
-    ensures { Stopped line.now from result }
+fn word_end(line: &[u8]) -> Option<usize>
+    ensures { result ≡ position (λ b. blank b) line.now }
 {
-    let mut i = from;
-    while i < line.len() {
-        if is_blank(line[i]) {
-            return i;
-        }
-        i += 1;
-    }
-    i
+    line.iter().position(|b| is_blank(*b))
 }
 
-// The next word from `from` on; an empty span where there is none.
-pub(crate) fn next_word(line: &[u8], from: usize) -> Span
-    requires { from ≤ length line.now }
-    ensures { Told line.now from result.start result.end }
+// The first word, and what stands behind it; none where there are blanks alone.
+pub(crate) fn next_word(line: &[u8]) -> Option<(&[u8], &[u8])>
+    ensures { MatchOption result (words line.now ≡ []) (λ p. words line.now ≡ p.0.now ∷ words p.1.now) }
 {
-    let start = skip_blanks(line, from);
-    let end = find_blank(line, start);
-    Span { start, end }
+    let rest = &line[word_start(line)?..];
+    Some(rest.split_at(word_end(rest).unwrap_or(rest.len())))
 }
 
 // The line's second word, which is a call's first argument; empty where there is none.
 pub fn argument(line: &[u8]) -> &[u8]
     ensures { result.now ≡ get_or (words line.now) 1 [] }
 {
-    let first = next_word(line, 0);
-    let second = next_word(line, first.end);
-    let start = second.start;
-    let end = second.end;
-    &line[start..end]
+    if let Some((_, rest)) = next_word(line)
+        && let Some((word, _)) = next_word(rest)
+    {
+        word
+    } else {
+        &line[..0]
+    }
 }
 
 // The first `n` bytes, or all where there are fewer.
 pub fn front(s: &[u8], n: usize) -> &[u8]
     ensures { result.now ≡ take n s.now }
 {
-    if n < s.len() { &s[..n] } else { s }
+    s.get(..n).unwrap_or(s)
 }

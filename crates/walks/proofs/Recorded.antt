@@ -1,14 +1,14 @@
 -- A record that goes out is the rules'.
 use mathlib.Core.Path.{◌≡◌, refl, sym, ap, ap₂, ◌∙◌}
 use mathlib.Core.Bool.{false}
-use mathlib.Core.List.{List, ◌++◌}
+use mathlib.Core.List.{List, ◌++◌, append-nil}
 use Prim.Native.Nat.{ℕ, ◌+◌, ◌≤◌}
 use native.Mathlib.Omega.{arith}
-use lib.ListN.{length, length-append}
+use lib.ListN.{length, replicate, length-append}
 use Rattle.refusal.proofs.Cases.{if-case}
 use Rattle.wire.specs.Bytes.{bytes}
 use Rattle.wire.specs.Opcodes.{header_length}
-use Rattle.wire.specs.Header.{header_bytes, write_of}
+use Rattle.wire.specs.Header.{header_bytes, write_of, bytes_of, length_of}
 use Rattle.wire.proofs.Bytes.{bytes-length}
 use Rattle.wire.proofs.Writing.{bytes_whole}
 use Rattle.rules.specs.declared.Packet.{Packet}
@@ -24,8 +24,8 @@ use Rattle.message.specs.Capped.{capped, tidy}
 use Rattle.message.specs.Places.{sent_by}
 use Rattle.message.proofs.Cuts.{capped_same, tidy-same}
 use Rattle.message.proofs.Fitting.{sent-fits}
-use Rattle.walks.specs.Acting.{length_of, record_of, placed}
-use Rattle.walks.proofs.Placing.{placed-two}
+use Rattle.walks.specs.Acting.{record_of, placed}
+use Rattle.walks.proofs.Placing.{placed-behind}
 
 -- "records of 48 bytes", whatever the packet
 pub record-long : (s : Settings) (q : Packet) → length (record_of s q) ≡ record_bytes
@@ -39,31 +39,31 @@ unfolding record_of
 record_is t p ok h f op =
     let q = sent t p in
     let same : q.opcode ≡ p.opcode = if-case (λ (x : Packet). x.opcode ≡ p.opcode) (is_read p) (λ _. refl) (λ _. refl) in
-    let long : length_of (write_of (header_of t.settings q)).size ≡ header_length q.opcode = ap length_of h.size ∙ ap header_length (sym same) in
+    let long : length_of (write_of (header_of t.settings q)) ≡ header_length q.opcode = ap length_of h.whole ∙ ap header_length (sym same) in
     ap₂ record_of (capped_same t.settings ok) (ap (λ (x : Standing). sent_by x p) (tidy-same t ok) ∙ sent-fits t p f op)
-    ∙ ap (λ (n : ℕ). (write_of (header_of t.settings q)).bytes ++ bytes 4 n ++ bytes 4 q.ticket ++ bytes 4 q.offset ++ bytes 4 q.length) long
+    ∙ ap (λ (n : ℕ). bytes_of (write_of (header_of t.settings q)) ++ bytes 4 n ++ bytes 4 q.ticket ++ bytes 4 q.offset ++ bytes 4 q.length) long
 
--- the header and the four numbers, each behind the one before, are the record
-pub record-placed : (s : Settings) (q : Packet) (at : ℕ) (out : List ℕ) → at + record_bytes ≤ length out
-    → placed (at + header_bytes + 12) (bytes 4 q.length) (placed (at + header_bytes + 8) (bytes 4 q.offset) (placed (at + header_bytes + 4) (bytes 4 q.ticket)
-    (placed (at + header_bytes) (bytes 4 (length_of (write_of (header_of s q)).size)) (placed at (write_of (header_of s q)).bytes out))))
-    ≡ placed at (record_of s q) out
-unfolding record_of
-record-placed s q at out room =
-    let head = (write_of (header_of s q)).bytes in
-    let next = at + header_bytes in
-    let size = length_of (write_of (header_of s q)).size in
-    let a = bytes 4 size in
+-- the header, and each number behind what is there, are the record
+pub record-built : (s : Settings) (q : Packet) → let w = write_of (header_of s q) in
+    placed (header_bytes + 12) (bytes 4 q.length) (placed (header_bytes + 8) (bytes 4 q.offset) (placed (header_bytes + 4) (bytes 4 q.ticket)
+    (placed header_bytes (bytes 4 (length_of w)) (bytes_of w ++ replicate 16 0))))
+    ≡ record_of s q
+unfolding record_of bytes
+record-built s q =
+    let w = write_of (header_of s q) in
+    let head = bytes_of w in
+    let a = bytes 4 (length_of w) in
     let b = bytes 4 q.ticket in
     let c = bytes 4 q.offset in
     let d = bytes 4 q.length in
-    let one : length head ≡ header_bytes = bytes_whole (header_of s q) in
-    let two : length (head ++ a) ≡ header_bytes + 4 = omega (arith, one, length-append head a, bytes-length 4 size) in
-    let three : length (head ++ a ++ b) ≡ header_bytes + 8 = omega (arith, two, length-append (head ++ a) b, bytes-length 4 q.ticket) in
-    let four : length (head ++ a ++ b ++ c) ≡ header_bytes + 12 = omega (arith, three, length-append (head ++ a ++ b) c, bytes-length 4 q.offset) in
-    ap (λ (o : List ℕ). placed (next + 12) d (placed (next + 8) c (placed (next + 4) b o)))
-    (placed-two at next head a out (omega (arith, one)) (omega (arith, bytes-length 4 size)))
-    ∙ ap (λ (o : List ℕ). placed (next + 12) d (placed (next + 8) c o))
-    (placed-two at (next + 4) (head ++ a) b out (omega (arith, two)) (omega (arith, bytes-length 4 q.ticket)))
-    ∙ ap (placed (next + 12) d) (placed-two at (next + 8) (head ++ a ++ b) c out (omega (arith, three)) (omega (arith, bytes-length 4 q.offset)))
-    ∙ placed-two at (next + 12) (head ++ a ++ b ++ c) d out (omega (arith, four)) (omega (arith, bytes-length 4 q.length))
+    let one : header_bytes ≡ length head = sym (bytes_whole (header_of s q)) in
+    let two : header_bytes + 4 ≡ length (head ++ a) = omega (arith, one, length-append head a) in
+    let three : header_bytes + 8 ≡ length (head ++ a ++ b) = omega (arith, two, length-append (head ++ a) b) in
+    let four : header_bytes + 12 ≡ length (head ++ a ++ b ++ c) = omega (arith, three, length-append (head ++ a ++ b) c) in
+    ap (λ (o : List ℕ). placed (header_bytes + 12) d (placed (header_bytes + 8) c (placed (header_bytes + 4) b o)))
+    (placed-behind head a (replicate 16 0) header_bytes one (omega arith))
+    ∙ ap (λ (o : List ℕ). placed (header_bytes + 12) d (placed (header_bytes + 8) c o))
+    (placed-behind (head ++ a) b (replicate 12 0) (header_bytes + 4) two (omega arith))
+    ∙ ap (placed (header_bytes + 12) d) (placed-behind (head ++ a ++ b) c (replicate 8 0) (header_bytes + 8) three (omega arith))
+    ∙ placed-behind (head ++ a ++ b ++ c) d (replicate 4 0) (header_bytes + 12) four (omega arith)
+    ∙ append-nil (head ++ a ++ b ++ c ++ d)

@@ -1,9 +1,7 @@
 -- The three walks that act: slots leave a pair for the free queue's end, slots from the free queue's front join a pair, packets go out.
 use Rattle.std.specs.Prelude.{List, ◌++◌, ℕ, suc, ◌+◌, ◌-◌, ◌*◌, ◌%◌, ◌^◌, ltb, leb, eqb, length, set, take, drop, if◌then◌else◌}
-use Rattle.wire.specs.declared.Size.{Size}
-use Rattle.wire.specs.declared.Size.TheVariants.{Length, Refused}
 use Rattle.wire.specs.Bytes.{bytes}
-use Rattle.wire.specs.Header.{write_of}
+use Rattle.wire.specs.Header.{write_of, bytes_of, length_of}
 use Rattle.rules.specs.declared.Packet.{Packet}
 use Rattle.rules.specs.declared.Settings.{Settings}
 use Rattle.rules.specs.declared.Slot.{Slot}
@@ -97,16 +95,11 @@ abbrev pub emit_step : Emitting → Slot → Emitting
 emit_step w i =
     record { left = w.left - 1; total = w.total; at = i.link; x = ends (capped w.standing.settings) i.packet; standing = w.standing }
 
--- the header's length, as the header layer says it
-abbrev pub length_of : Size → ℕ
-length_of (Length n) = n
-length_of (Refused n) = 0
-
 -- a record, of what is sent: on what a pair may hold it is the rules' `emission` (`record_is`)
 unfoldable pub record_of : Settings → Packet → List ℕ
 record_of s q =
     let w = write_of (header_of s q) in
-    w.bytes ++ bytes 4 (length_of w.size) ++ bytes 4 q.ticket ++ bytes 4 q.offset ++ bytes 4 q.length
+    bytes_of w ++ bytes 4 (length_of w) ++ bytes 4 q.ticket ++ bytes 4 q.offset ++ bytes 4 q.length
 
 -- new bytes in place of those at a place, if there are as many
 unfoldable pub placed : ℕ → List ℕ → List ℕ → List ℕ

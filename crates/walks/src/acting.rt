@@ -1,51 +1,25 @@
 // The steps of the walks that act: a slot leaves a pair for the free queue's end, or joins one with a packet of a post.
-ghost use Rattle.std.specs.Prelude.{◌≡◌, ◌-◌, set, if◌then◌else◌};
-ghost use Rattle.walks.specs.Acting.{move_step, counted, leave_step, status_of, completed, join_step, join_slot};
+ghost use Rattle.std.specs.Prelude.{◌≡◌, set, if◌then◌else◌};
+ghost use Rattle.walks.specs.Acting.{move_step, leave_step, completed, join_step, join_slot};
 
 use crate::{Joining, Leaving, Moving};
-use message::{Card, ends_message, less, pick, place_at};
-use rules::{Packet, Slot};
-
-// One more, in 32 bits.
-fn counted(n: u32) -> u32
-    ensures { result ≡ counted n }
-{
-    ((n as u64 + 1) % 4_294_967_296) as u32
-}
-
-// A packet, field by field: compiled so, a copy costs nothing, where one of 16 bytes at a time waits for fields that were just written.
-pub fn copied(p: Packet) -> Packet
-    ensures { result ≡ p }
-{
-    Packet {
-        psn: p.psn,
-        ticket: p.ticket,
-        opcode: p.opcode,
-        offset: p.offset,
-        length: p.length,
-        address: p.address,
-        key: p.key,
-        total: p.total,
-        value: p.value,
-    }
-}
+use message::{Card, ends_message, place_at};
+use rules::Slot;
 
 pub fn with_link(i: Slot, link: u32) -> Slot
     ensures { result ≡ record { link = link; packet = i.packet } }
 {
-    let packet = copied(i.packet);
-    Slot { link, packet }
+    Slot { link, ..i }
 }
 
 pub fn move_step(w: Moving, i: Slot) -> Moving
     ensures { result ≡ move_step w i }
 {
-    let left = less(w.left, 1);
-    let first = pick(w.first == Card::NONE, w.at, w.first);
     Moving {
-        left,
+        left: w.left.saturating_sub(1),
         at: i.link,
-        first,
+        // A number and no Option: the walks write these links back.
+        first: if w.first == Card::NONE { w.at } else { w.first },
         last: w.at,
     }
 }
@@ -53,59 +27,43 @@ pub fn move_step(w: Moving, i: Slot) -> Moving
 pub fn leave_step(w: Leaving, i: Slot) -> Leaving
     ensures { result ≡ leave_step w i }
 {
-    let last = ends_message(i.packet);
-    let moving = move_step(w.moving, i);
-    let released = less(w.released, 1);
-    let more = counted(w.messages);
-    let messages = pick(last, more, w.messages);
     Leaving {
-        moving,
-        released,
-        messages,
+        moving: move_step(w.moving, i),
+        released: w.released.saturating_sub(1),
+        messages: if ends_message(i.packet) {
+            w.messages.wrapping_add(1)
+        } else {
+            w.messages
+        },
     }
 }
 
-fn status_of(w: Leaving) -> u32
-    ensures { result ≡ status_of w }
+// An entry at its place in a table, if there is one. By its index: through `get_mut` a proof learns nothing of the table after but its length.
+pub fn put_if<T: Copy>(table: &mut [T], at: usize, entry: T)
+    ensures { table.new ≡ set table.old at entry }
 {
-    pick(0 < w.released, 0, 1)
-}
-
-// A number at its place, if there is one.
-fn put(done: &mut [u32], at: usize, n: u32)
-    ensures { done.new ≡ set done.old at n }
-{
-    if at < done.len() {
-        done[at] = n;
+    if at < table.len() {
+        table[at] = entry;
     }
 }
 
-// A message's ticket and status, at its place.
+// A message's ticket and status, at its place: 0 where it is released, 1 where it is flushed.
 pub fn complete(done: &mut [u32], w: Leaving, i: Slot)
     ensures { done.new ≡ completed done.old w i }
 {
-    let q = i.packet;
-    let last = ends_message(q);
-    if last {
+    if ends_message(i.packet) {
         let at = 2 * w.messages as usize;
-        let status = status_of(w);
-        put(done, at, q.ticket);
-        put(done, at + 1, status);
+        put_if(done, at, i.packet.ticket);
+        put_if(done, at + 1, u32::from(w.released == 0));
     }
 }
 
 pub fn join_step(w: Joining, i: Slot) -> Joining
     ensures { result ≡ join_step w i }
 {
-    let moving = move_step(w.moving, i);
-    let settings = w.settings;
-    let post = w.post;
     Joining {
-        moving,
-        total: w.total,
-        settings,
-        post,
-        first: w.first,
+        moving: move_step(w.moving, i),
+        ..w
     }
 }
 
@@ -113,11 +71,9 @@ pub fn join_step(w: Joining, i: Slot) -> Joining
 pub fn join_slot(w: Joining) -> Slot
     ensures { result ≡ join_slot w }
 {
-    let m = w.moving;
-    let place = less(w.total, m.left);
-    let packet = place_at(w.settings, w.post, w.first, place);
+    let place = w.total.saturating_sub(w.moving.left);
     Slot {
         link: Card::NONE,
-        packet,
+        packet: place_at(w.settings, w.post, w.first, place),
     }
 }

@@ -1,14 +1,14 @@
 // Packets on their way out: one step of the walk, and the record of one packet in the lent bytes.
-ghost use Rattle.std.specs.Prelude.{◌≡◌, ◌+◌, ◌^◌, ◌≤◌, ◌<◌, length};
+ghost use Rattle.std.specs.Prelude.{◌≡◌, ◌+◌, ◌^◌, ◌≤◌, ◌<◌};
 ghost use Rattle.wire.specs.Bytes.{bytes as Bytes·bytes};
 ghost use Rattle.rules.specs.Emission.{pad_for, header_of, record_bytes};
 ghost use Rattle.message.specs.Capped.{capped};
-ghost use Rattle.walks.specs.Acting.{emit_step, length_of, record_of, placed, recorded};
+ghost use Rattle.walks.specs.Acting.{emit_step, record_of, placed, recorded};
 
 use crate::Emitting;
-use message::{ends, less, sent};
+use message::{ends, sent};
 use rules::{Packet, Settings, Slot};
-use wire::{HEADER_BYTES, Header, Size, write};
+use wire::{HEADER_BYTES, Header, Written, write};
 
 // A header's bytes, and four numbers of four.
 pub const RECORD_BYTES: usize = HEADER_BYTES + 4 * 4;
@@ -17,15 +17,11 @@ pub const RECORD_BYTES: usize = HEADER_BYTES + 4 * 4;
 pub fn emit_step(w: Emitting, i: Slot) -> Emitting
     ensures { result ≡ emit_step w i }
 {
-    let t = w.standing;
-    let left = less(w.left, 1);
-    let x = ends(t.settings, i.packet);
     Emitting {
-        left,
-        total: w.total,
+        left: w.left.saturating_sub(1),
         at: i.link,
-        x,
-        standing: t,
+        x: ends(w.standing.settings, i.packet),
+        ..w
     }
 }
 
@@ -38,14 +34,15 @@ fn pad_for(len: u32) -> u8
     ((4 - len % 4) % 4) as u8
 }
 
+#[tactic(auto, unfolding(message::specs::Capped::capped))]
 fn header_of(s: Settings, q: Packet) -> Header
     requires { q.opcode < 2 ^ 8 }
     ensures { result ≡ header_of (capped s) q }
 {
-    let pad = pad_for(q.length);
     Header {
         opcode: q.opcode as u8,
-        pad,
+        pad: pad_for(q.length),
+        // `% 65_536`: a host may lend more than 16 bits, and what `as` casts must fit.
         pkey: (s.pkey % 65_536) as u16,
         far: s.far,
         psn: q.psn,
@@ -58,61 +55,34 @@ fn header_of(s: Settings, q: Packet) -> Header
     }
 }
 
-fn length_of(size: Size) -> u32
-    ensures { result ≡ length_of size }
-{
-    match size {
-        Size::Length(n) => n,
-        Size::Refused(_) => 0,
-    }
-}
-
 // ---- the record
 
-fn put_bytes(out: &mut [u8], at: usize, bytes: &[u8])
-    requires { at + length bytes.now ≤ length out.old }
-    ensures { out.new ≡ placed at bytes.now out.old }
-{
-    let mut i = 0;
-    while i < bytes.len() {
-        out[at + i] = bytes[i];
-        i += 1;
-    }
-}
+// What stands for a header that is refused.
+const UNWRITTEN: Written = Written {
+    length: 0,
+    bytes: [0; HEADER_BYTES],
+};
 
-fn bytes_of(n: u32) -> [u8; 4]
-    ensures { result ≡ Bytes·bytes 4 n }
-{
-    let a = (n / 16_777_216 % 256) as u8;
-    let b = (n / 65_536 % 256) as u8;
-    let c = (n / 256 % 256) as u8;
-    let d = (n % 256) as u8;
-    [a, b, c, d]
-}
-
-fn put_number(out: &mut [u8], at: usize, n: u32)
-    requires { at + 4 ≤ length out.old }
+// A number at its place in a record.
+fn put_number(out: &mut [u8; RECORD_BYTES], at: usize, n: u32)
+    requires { at + 4 ≤ record_bytes }
     ensures { out.new ≡ placed at (Bytes·bytes 4 n) out.old }
 {
-    let number = bytes_of(n);
-    put_bytes(out, at, &number);
+    out[at..at + 4].copy_from_slice(&n.to_be_bytes());
 }
 
-fn put_record(out: &mut [u8], at: usize, s: Settings, q: Packet)
-    requires { (at + record_bytes ≤ length out.old) × (q.opcode < 2 ^ 8) }
-    ensures { out.new ≡ placed at (record_of (capped s) q) out.old }
+fn record_of(s: Settings, q: Packet) -> [u8; RECORD_BYTES]
+    requires { q.opcode < 2 ^ 8 }
+    ensures { result ≡ record_of (capped s) q }
 {
-    let h = header_of(s, q);
-    let written = write(h);
-    let size = written.size;
-    let len = length_of(size);
-    let head = written.bytes;
-    put_bytes(out, at, &head);
-    let next = at + HEADER_BYTES;
-    put_number(out, next, len);
-    put_number(out, next + 4, q.ticket);
-    put_number(out, next + 8, q.offset);
-    put_number(out, next + 12, q.length);
+    let written = write(header_of(s, q)).unwrap_or(UNWRITTEN);
+    let mut record = [0; RECORD_BYTES];
+    record[..HEADER_BYTES].copy_from_slice(&written.bytes);
+    put_number(&mut record, HEADER_BYTES, written.length);
+    put_number(&mut record, HEADER_BYTES + 4, q.ticket);
+    put_number(&mut record, HEADER_BYTES + 8, q.offset);
+    put_number(&mut record, HEADER_BYTES + 12, q.length);
+    record
 }
 
 // The packet's record, behind those that are written; nothing where it does not fit.
@@ -120,11 +90,10 @@ pub fn emit_record(out: &mut [u8], w: Emitting, i: Slot)
     ensures { out.new ≡ recorded out.old w i }
 {
     let t = w.standing;
-    let gone = less(w.total, w.left);
-    let at = RECORD_BYTES * gone as usize;
-    if out.len() < at + RECORD_BYTES {
-        return;
+    let at = RECORD_BYTES * w.total.saturating_sub(w.left) as usize;
+    let end = at + RECORD_BYTES;
+    // By its range: through `get_mut` a proof learns nothing of the bytes after but their length.
+    if end <= out.len() {
+        out[at..end].copy_from_slice(&record_of(t.settings, sent(t, i.packet)));
     }
-    let q = sent(t, i.packet);
-    put_record(out, at, t.settings, q);
 }

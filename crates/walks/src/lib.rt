@@ -5,12 +5,12 @@
 mod acting;
 mod emission;
 
-pub use acting::{complete, copied, join_slot, join_step, leave_step, move_step, with_link};
+pub use acting::{complete, join_slot, join_step, leave_step, move_step, put_if, with_link};
 pub use emission::{RECORD_BYTES, emit_record, emit_step};
 use rules::{Post, Settings, Standing};
 
 // Slots on their way from the front of one queue to the end of another: how many are left, the next of them, and the first and last of the queue they join.
-#[derive(Clone, Copy)]
+#[derive(Clone, Copy, Debug, PartialEq, Eq)]
 pub struct Moving {
     pub left: u32,
     pub at: u32,
@@ -19,7 +19,7 @@ pub struct Moving {
 }
 
 // Slots that leave a pair: how many of those left are released (the others are flushed), and how many messages were completed.
-#[derive(Clone, Copy)]
+#[derive(Clone, Copy, Debug, PartialEq, Eq)]
 pub struct Leaving {
     pub moving: Moving,
     pub released: u32,
@@ -27,7 +27,7 @@ pub struct Leaving {
 }
 
 // Slots that join a pair with a post's packets: how many there are, and the first PSN.
-#[derive(Clone, Copy)]
+#[derive(Clone, Copy, Debug, PartialEq, Eq)]
 pub struct Joining {
     pub moving: Moving,
     pub total: u32,
@@ -37,7 +37,7 @@ pub struct Joining {
 }
 
 // Packets that go out: how many are left, how many there are, the next slot, and where the last of them ended.
-#[derive(Clone, Copy)]
+#[derive(Clone, Copy, Debug, PartialEq, Eq)]
 pub struct Emitting {
     pub left: u32,
     pub total: u32,

@@ -1,19 +1,22 @@
 -- The writer's cursor: what one call adds and then another is what both add. Assumes nothing.
 use Rattle.std.specs.Prelude.{if◌then◌else◌}
-use mathlib.Core.Path.{◌≡◌, sym, ◌∙◌, ap, ap₂, subst}
+use mathlib.Core.Path.{◌≡◌, refl, sym, ◌∙◌, ap, ap₂, subst}
 use mathlib.Core.Bool.{Bool, true, false, true≢false, false≢true}
 use mathlib.Core.List.{List, [], ◌∷◌, ◌++◌, append_assoc, append-nil}
-use Prim.Native.Nat.{ℕ, suc, ◌+◌, ◌-◌, ◌*◌, ◌/◌, ◌%◌, ◌^◌, ◌<◌}
+use Prim.Native.Nat.{ℕ, zero, suc, ◌+◌, ◌-◌, ◌*◌, ◌/◌, ◌%◌, ◌^◌, ◌<◌}
 use native.Mathlib.Omega.{arith}
 use native.Mathlib.Nat.{zero-add}
-use lib.ListN.{length, set, replicate, length-append}
-use lib.Seq.{set-append_seam, append_snoc}
+use lib.ListN.{length, drop, replicate, length-append}
+use lib.Seq.{take-append_seam, drop-append_seam}
+use borrow.Rule.Slice.PartMut.{put_mid}
+use Rattle.std.specs.Int.{byte_at, bytes_high_first}
+use Rattle.std.proofs.lemmas.List.{drop-replicate}
 use Rattle.wire.specs.Bytes.{octet, bytes}
 use Rattle.wire.specs.Layout.{Name, Layout, ◌bits◌, size, laid}
 use Rattle.wire.specs.Header.{header_bytes}
 use Rattle.wire.specs.Inner.Out.{filled, Adds, spelled}
 use Rattle.wire.specs.declared.writer.Out.{Out}
-use Rattle.wire.proofs.Bytes.{bytes-append, bytes-mod}
+use Rattle.wire.proofs.Bytes.{pow-byte, bytes-append, bytes-mod}
 use Rattle.wire.proofs.Fields.{laid-below, laid-append, size-append}
 
 pub adds_none : (a : Out) → Adds a a []
@@ -29,36 +32,47 @@ adds-join a b c ys zs p q xs e h =
 pub bytes-of-low : (k n : ℕ) → bytes k (n % 2 ^ (octet * k)) ≡ bytes k n
 bytes-of-low k n = ap (λ (j : ℕ). bytes k (n % 2 ^ (octet * j))) (sym (zero-add k)) ∙ bytes-mod k 0 n
 
--- a number of two parts
-pub adds-number : (a b c : Out) (m k x y n : ℕ) → y < 2 ^ (octet * k) → n % 2 ^ (octet * (m + k)) ≡ x * 2 ^ (octet * k) + y
-    → Adds a b (bytes m x) → Adds b c (bytes k y) → Adds a c (bytes (m + k) n)
-adds-number a b c m k x y n h e p q =
-    let parts : bytes m x ++ bytes k y ≡ bytes (m + k) n =
-    sym (bytes-append m k x y h) ∙ ap (bytes (m + k)) (sym e) ∙ bytes-of-low (m + k) n in
-    subst (Adds a c) parts (adds-join a b c (bytes m x) (bytes k y) p q)
+-- bytes stored at the cursor
+pub adds-put : (a : Out) (ys new : List ℕ) (k : ℕ) → new ≡ ys → k ≡ length ys → Adds a (record { bytes = put_mid a.at k a.bytes new; at = a.at + length ys }) ys
+unfolding filled
+adds-put a ys new k s p xs e l = ap {B = Out} (λ (o : Out). record { bytes = put_mid o.at k o.bytes new; at = o.at + length ys }) e ∙ stored
+  where
+    zeros : List ℕ
+    zeros = replicate (header_bytes - length xs) 0
 
--- one byte stored at the cursor
-stored : (xs : List ℕ) (b : ℕ) → b < 256 → length xs < header_bytes
-    → record { bytes = set (filled xs).bytes (length xs) b; at = length xs + 1 } ≡ filled (xs ++ bytes 1 b)
-unfolding filled bytes
-stored xs b h l =
-    let n = length xs in
-    let byte : b / 1 % 256 ≡ b = omega arith in
-    let room : header_bytes - n ≡ suc (header_bytes - suc n) = omega arith in
-    let after : header_bytes - length (xs ++ (b ∷ [])) ≡ header_bytes - suc n = omega (arith, length-append xs (b ∷ [])) in
-    let kept : set (xs ++ replicate (header_bytes - n) 0) n b ≡ xs ++ (b ∷ []) ++ replicate (header_bytes - length (xs ++ (b ∷ []))) 0 =
-    ap (λ (k : ℕ). set (xs ++ replicate k 0) n b) room
-    ∙ set-append_seam xs 0 (replicate (header_bytes - suc n) 0) b
-    ∙ sym (ap (λ (k : ℕ). xs ++ (b ∷ []) ++ replicate k 0) after ∙ append_snoc xs b (replicate (header_bytes - suc n) 0)) in
-    let next : n + 1 ≡ length (xs ++ (b ∷ [])) = omega (arith, length-append xs (b ∷ [])) in
-    let made : ◌≡◌ {A = Out} (record { bytes = set (xs ++ replicate (header_bytes - n) 0) n b; at = n + 1 }) (filled (xs ++ (b ∷ []))) =
-    λ i. record { bytes = kept i; at = next i } in
-    made ∙ ap (λ (x : ℕ). filled (xs ++ (x ∷ []))) (sym byte)
+    after : List ℕ
+    after = replicate (header_bytes - length (xs ++ ys)) 0
 
-pub adds-byte : (a : Out) (b : ℕ) → b < 256 → Adds a (record { bytes = set a.bytes a.at b; at = a.at + 1 }) (bytes 1 b)
-unfolding filled bytes
-adds-byte a b h xs e l =
-    ap {B = Out} (λ (o : Out). record { bytes = set o.bytes o.at b; at = o.at + 1 }) e ∙ stored xs b h (omega arith)
+    back : drop k (drop (length xs) (xs ++ zeros)) ≡ after
+    back =
+        let left : header_bytes - length xs - k ≡ header_bytes - length (xs ++ ys) = omega (arith, length-append xs ys, p) in
+        ap (drop k) (drop-append_seam xs zeros) ∙ drop-replicate k (header_bytes - length xs) 0 ∙ ap (λ (j : ℕ). replicate j 0) left
+
+    kept : put_mid (length xs) k (xs ++ zeros) new ≡ xs ++ ys ++ after
+    kept =
+        ap₂ (λ (f b : List ℕ). f ++ (new ++ b)) (take-append_seam xs zeros) back
+        ∙ ap (λ (m : List ℕ). xs ++ (m ++ after)) s
+        ∙ sym (append_assoc xs ys after)
+
+    stored : ◌≡◌ {A = Out} (record { bytes = put_mid (length xs) k (xs ++ zeros) new; at = length xs + length ys }) (filled (xs ++ ys))
+    stored = λ i. record { bytes = kept i; at = sym (length-append xs ys) i }
+
+-- one byte
+pub one-byte : (n : ℕ) → n < 256 → n ∷ [] ≡ bytes 1 n
+unfolding bytes
+one-byte n h =
+    let byte : n ≡ n / 1 % 256 = omega arith in
+    ap (λ (x : ℕ). x ∷ []) byte
+
+-- the library's word for a number's bytes is ours
+pub bytes-high : (k n : ℕ) → bytes_high_first k n ≡ bytes k n
+unfolding bytes
+bytes-high zero n = refl
+bytes-high (suc k) n = ap₂ (λ (x : ℕ) (xs : List ℕ). x ∷ xs) (at k) (bytes-high k n)
+  where
+    at : (k : ℕ) → byte_at k n ≡ n / 2 ^ (octet * k) % 2 ^ octet
+    at zero = omega arith
+    at (suc i) = ap (λ (j : ℕ). n / j % 256) (pow-byte (suc i))
 
 -- a layout of two parts, each of whole bytes
 pub spelled-append : (v : Name → ℕ) (fs gs : Layout) (m k : ℕ) → size fs ≡ octet * m → size gs ≡ octet * k → spelled v (fs ++ gs) ≡ spelled v fs ++ spelled v gs
@@ -86,6 +100,10 @@ spelled-one v n k =
 
 pub adds-field : (a b : Out) (v : Name → ℕ) (n : Name) (k : ℕ) → Adds a b (bytes k (v n)) → Adds a b (spelled v (n bits (octet * k) ∷ []))
 adds-field a b v n k p = subst (Adds a b) (sym (spelled-one v n k)) p
+
+-- a field of whole bytes, as the library's method gives them
+pub adds-be : (a b : Out) (v : Name → ℕ) (n : Name) (k : ℕ) {ys : List ℕ} → ys ≡ bytes_high_first k (v n) → Adds a b ys → Adds a b (spelled v (n bits (octet * k) ∷ []))
+adds-be a b v n k e p = adds-field a b v n k (subst (Adds a b) (e ∙ bytes-high k (v n)) p)
 
 -- headers that an opcode may carry
 pub adds_carried : (a b : Out) (v : Name → ℕ) (fs : Layout) (t : Bool) → t ≡ true → Adds a b (spelled v fs) → Adds a b (spelled v (if t then fs else []))

@@ -1,30 +1,29 @@
 -- "Writing what was read gives the same bytes when the reserved bits were zero and those three as written." Assumes nothing.
+use Rattle.std.specs.Prelude.{Option, None, Some, Ok, Err}
 use mathlib.Core.Path.{◌≡◌, refl, sym, ◌∙◌, ap, subst}
 use mathlib.Core.Bool.{Bool, true, false}
 use mathlib.Core.List.{List, ◌++◌}
 use Prim.Native.Nat.{ℕ, ◌+◌, ◌-◌, ◌*◌, ◌^◌, ◌≤◌, ◌<◌}
 use native.Mathlib.Omega.{arith}
 use native.Mathlib.Nat.{zero-add, mod-eq_of_lt}
-use lib.Dec.{eqb, lit<}
+use lib.Dec.{eqb}
 use lib.ListN.{length, take, replicate}
 use lib.Seq.{length-take-le}
 use borrow.Author.Tests.{ltb-false, eqb-true, lt-leb, le-ltb, not-false}
 use Rattle.psn.specs.Psn.{psns}
 use Rattle.refusal.specs.Refusals.{first_given}
-use Rattle.refusal.proofs.Cases.{by-test}
-use Rattle.refusal.proofs.Given.{none-given}
+use Rattle.refusal.specs.declared.Refusal.{Refusal}
+use Rattle.refusal.proofs.Given.{by-given, none-given}
 use Rattle.wire.specs.Bytes.{octet, number, bytes, AllBytes}
 use Rattle.wire.specs.Layout as fields
 use Rattle.wire.specs.Layout.{Name, size, laid, field}
 use Rattle.wire.specs.Opcodes.{known, has_reth, has_immediate, has_aeth, joined, layout, header_length, row_of}
-use Rattle.wire.specs.Header.{header_bytes, put, written, is_out_of_range, write_of}
-use Rattle.wire.specs.Frame.{got, opcode_of, length_of, rest_of, value_in, frame_refusals, read_of}
+use Rattle.wire.specs.Header.{header_bytes, put, written, is_out_of_range, answered, write_of}
+use Rattle.wire.specs.Frame.{got, opcode_of, length_of, value_in, frame_refusals, frame_of, read_of}
 use Rattle.wire.specs.Inner.Seen.{bth_in, aeth_in, header_in, count}
 use Rattle.wire.specs.RoundTrip.{AsWritten, Back}
 use Rattle.wire.specs.declared.Header.{Header}
-use Rattle.wire.specs.declared.Frame.TheVariants.{Read, Refused}
-use Rattle.wire.specs.declared.Size.TheVariants.{Length}
-use Rattle.wire.specs.declared.Written.{Written}
+use Rattle.wire.specs.declared.Frame.{Frame}
 use Rattle.wire.specs.declared.reader.Bth.{Bth}
 use Rattle.wire.specs.declared.reader.Aeth.{Aeth}
 use Rattle.wire.proofs.Bytes.{number-below, bytes-number}
@@ -128,41 +127,38 @@ module _ (s : List ℕ) (small : AllBytes s) (t : Taken s) (w : AsWritten s) whe
       subst (λ (y : Header). y.msn < 2 ^ 24) (sym as_read) (aeth-msn (12 + count (has_reth op) 16 + count (has_immediate op) 4) (has_aeth op)) in
       rw (le-ltb 3 h.pad pad, lt-leb (2 ^ 24) h.far far, lt-leb psns h.psn psn, lt-leb (2 ^ 24) h.msn msn)
 
-  write-back : write_of h ≡ record { size = Length (length_of s); bytes = take (length_of s) s ++ replicate (header_bytes - length_of s) 0 }
+  write-back : write_of h ≡ Ok (record { length = length_of s; bytes = take (length_of s) s ++ replicate (header_bytes - length_of s) 0 })
   write-back =
       write-whole h not-out-of-range (ap known same-opcode ∙ t.is_known)
-      ∙ (λ i. record { size = Length (header_length (same-opcode i)); bytes = same_bytes i ++ replicate (header_bytes - header_length (same-opcode i)) 0 })
+      ∙ (λ i. Ok (record { length = header_length (same-opcode i); bytes = same_bytes i ++ replicate (header_bytes - header_length (same-opcode i)) 0 }))
 
 -- ---- the theorem
 
-taken : (s : List ℕ) → first_given (frame_refusals s) ≡ 0 → Taken s
+taken : (s : List ℕ) → first_given (frame_refusals s) ≡ None → Taken s
 taken s e =
-    let none = none-given (frame_refusals s) (lit< tt, (lit< tt, (lit< tt, (lit< tt, (lit< tt, tt))))) e in
+    let none = none-given (frame_refusals s) e in
     record {
       is_known = not-false (known (opcode_of s)) none.1.0;
       long = ltb-false (length s) (length_of s) none.1.1.0;
       version = eqb-true (value_in s fields.version) 0 (not-false (eqb (value_in s fields.version) 0) none.1.1.1.0);
     }
 
-read_is : (s : List ℕ) → eqb (first_given (frame_refusals s)) 0 ≡ true → read_of s ≡ Read (got (value_in s)) (length_of s) (rest_of s - value_in s fields.pad)
+read_is : (s : List ℕ) → first_given (frame_refusals s) ≡ None → read_of s ≡ Ok (frame_of s)
 unfolding read_of
-read_is s t = rw t
+read_is s e = ap (λ (o : Option Refusal). answered o (frame_of s)) e
 
-refused-is : (s : List ℕ) → eqb (first_given (frame_refusals s)) 0 ≡ false → read_of s ≡ Refused (first_given (frame_refusals s))
+refused-is : (s : List ℕ) (r : Refusal) → first_given (frame_refusals s) ≡ Some r → read_of s ≡ Err r
 unfolding read_of
-refused-is s t = rw t
+refused-is s r e = ap (λ (o : Option Refusal). answered o (frame_of s)) e
 
 pub back : Back
-back s h n payload small e w =
-    by-test (eqb (first_given (frame_refusals s)) 0)
-    (λ t.
-    let z : Read (got (value_in s)) (length_of s) (rest_of s - value_in s fields.pad) ≡ Read h n payload = sym (read_is s t) ∙ e in
-    let header : got (value_in s) ≡ h = cc in
-    let places : length_of s ≡ n = cc in
-    ap write_of (sym header)
-    ∙ write-back s small (taken s (eqb-true (first_given (frame_refusals s)) 0 t)) w
-    ∙ ap {B = Written} (λ (k : ℕ). record { size = Length k; bytes = take k s ++ replicate (header_bytes - k) 0 }) places)
-    (λ t.
-    let z : Refused (first_given (frame_refusals s)) ≡ Read h n payload = sym (refused-is s t) ∙ e in
-    let never : ◌≡◌ {A = ℕ} 0 1 = cc in
-    absurd (omega arith))
+back s f small e w =
+    by-given (first_given (frame_refusals s))
+    (λ none.
+    let z : Ok (frame_of s) ≡ Ok f = sym (read_is s none) ∙ e in
+    let same : frame_of s ≡ f = cc in
+    subst Again same (write-back s small (taken s none) w))
+    (λ r given. let z : Err r ≡ Ok f = sym (refused-is s r given) ∙ e in cc)
+  where
+    Again : Frame → Type 0
+    Again f = write_of f.header ≡ Ok (record { length = f.length; bytes = take f.length s ++ replicate (header_bytes - f.length) 0 })

@@ -3,8 +3,9 @@ use mathlib.Core.Path.{◌≡◌, refl, sym, ◌∙◌, ap, ap₂}
 use mathlib.Core.List.{List, [], ◌∷◌, ◌++◌}
 use Prim.Native.Nat.{ℕ, zero, suc, ◌+◌, ◌*◌, ◌/◌, ◌%◌, ◌^◌, ◌<◌}
 use native.Mathlib.Omega.{arith}
-use native.Mathlib.Nat.{zero-add, zero-mul, mul-add, add-mul, mul_assoc, add_assoc, suc-add, mod-eq_of_lt}
+use native.Mathlib.Nat.{zero-add, zero-mul, mul-add, add-mul, mul_assoc, add_assoc, suc-add, mul_comm, mod-eq_of_lt}
 use lib.Arith.{digits_lt}
+use Rattle.std.proofs.Math.Nat.{pow-suc}
 use lib.Pow.{pow-add, high, low, mod-pow-add, field, mod-mod-pow, shr-shr}
 use lib.ListN.{length, length-append}
 use Rattle.wire.specs.Bytes.{octet, AllBytes, number, bytes}
@@ -16,6 +17,10 @@ one_more k = omega arith
 
 pow_more : (k : ℕ) → 2 ^ (octet * suc k) ≡ 256 * 2 ^ (octet * k)
 pow_more k = ap (λ (n : ℕ). 2 ^ n) (one_more k) ∙ pow-add 2 8 (octet * k)
+
+pub pow-byte : (k : ℕ) → 256 ^ k ≡ 2 ^ (octet * k)
+pow-byte zero = refl
+pow-byte (suc k) = pow-suc 256 k ∙ ap (λ (n : ℕ). n * 256) (pow-byte k) ∙ mul_comm (2 ^ (octet * k)) 256 ∙ sym (pow_more k)
 
 pub pow-sum : (m k : ℕ) → 2 ^ (octet * (m + k)) ≡ 2 ^ (octet * m) * 2 ^ (octet * k)
 pow-sum m k = ap (λ (n : ℕ). 2 ^ n) (mul-add octet m k) ∙ pow-add 2 (octet * m) (octet * k)

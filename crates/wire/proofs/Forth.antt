@@ -1,5 +1,5 @@
 -- "Reading a written header .. gives the same fields." Assumes nothing.
-use Rattle.std.specs.Prelude.{if◌then◌else◌}
+use Rattle.std.specs.Prelude.{Ok, Err, if◌then◌else◌}
 use mathlib.Core.Path.{◌≡◌, refl, sym, ◌∙◌, ap, subst}
 use mathlib.Core.Bool.{Bool, true, false, ◌||◌}
 use mathlib.Core.List.{List, [], ◌∷◌, ◌++◌}
@@ -12,19 +12,19 @@ use lib.ListN.{length, take, replicate, length-append, get_or-append}
 use lib.Seq.{take_all, take_at}
 use borrow.Author.Tests.{ltb-false, leb-true, leb-false}
 use Rattle.psn.specs.Psn.{psns}
+use Rattle.refusal.specs.declared.Refusal.TheVariants.{Range, Opcode}
 use Rattle.refusal.proofs.Cases.{by-test, or_left, or_right}
 use Rattle.wire.specs.Bytes.{octet, number, bytes, AllBytes}
 use Rattle.wire.specs.Layout as fields
 use Rattle.wire.specs.Layout.{Name, Layout, bth, reth, immediate_data, aeth, size, has, laid, field}
 use Rattle.wire.specs.Opcodes.{known, has_reth, has_immediate, has_aeth, is_bare, layout, header_length}
-use Rattle.wire.specs.Header.{header_bytes, put, written, is_out_of_range, write_of}
-use Rattle.wire.specs.Frame.{got, opcode_of, length_of, rest_of, value_in, is_bad_rest, read_of}
+use Rattle.wire.specs.Header.{header_bytes, put, written, is_out_of_range, out_of}
+use Rattle.wire.specs.Frame.{got, opcode_of, length_of, rest_of, value_in, is_bad_rest, frame_of, read_of}
 use Rattle.wire.specs.Inner.Seen.{seen, bth_in, count}
 use Rattle.wire.specs.RoundTrip.{Held, kept, Forth}
 use Rattle.wire.specs.declared.Header.{Header}
 use Rattle.wire.specs.declared.Written.{Written}
-use Rattle.wire.specs.declared.Size.TheVariants.{Length, Refused}
-use Rattle.wire.specs.declared.Frame.TheVariants.{Read}
+use Rattle.wire.specs.declared.Frame.{Frame}
 use Rattle.wire.proofs.Bytes.{number-bytes}
 use Rattle.wire.proofs.Fields.{Fitting, laid-below, field-laid}
 use Rattle.wire.proofs.Rows.{length-bytes, length-least, size-joined}
@@ -134,7 +134,7 @@ module _ (h : Header) (held : Held h) (r : InRange h) (k : known h.opcode ≡ tr
         ∙ field-written n
 
     read_back : is_bad_rest (length rest) h.pad (is_bare h.opcode) ≡ false
-        → read_of frame ≡ Read (kept h) (header_length h.opcode) (length rest - h.pad)
+        → read_of frame ≡ Ok (record { header = kept h; length = header_length h.opcode; payload = length rest - h.pad })
     unfolding layout
     read_back b =
         let total = length-append (written h) rest in
@@ -144,33 +144,29 @@ module _ (h : Header) (held : Held h) (r : InRange h) (k : known h.opcode ≡ tr
         let pad-is : value_in frame fields.pad ≡ h.pad = value_there fields.pad in
         let tested : is_bad_rest (rest_of frame) (value_in frame fields.pad) (is_bare (opcode_of frame)) ≡ false =
         (λ i. is_bad_rest (rest-is i) (pad-is i) (is_bare (opcode-there i))) ∙ b in
-        let answer : Read (got (value_in frame)) (length_of frame) (rest_of frame - value_in frame fields.pad) ≡ Read (kept h) (header_length h.opcode) (length rest - h.pad) =
-        λ i. Read (got (λ n. value_there n i)) (length-there i) (rest-is i - pad-is i) in
-        read_whole frame least (ap known opcode-there ∙ k) long (value_there fields.version) tested ∙ answer
+        let answer : ◌≡◌ {A = Frame} (frame_of frame) (record { header = kept h; length = header_length h.opcode; payload = length rest - h.pad }) =
+        λ i. record { header = got (λ n. value_there n i); length = length-there i; payload = rest-is i - pad-is i } in
+        read_whole frame least (ap known opcode-there ∙ k) long (value_there fields.version) tested ∙ ap Ok answer
 
 -- ---- the theorem
 
 pub forth : Forth
-forth h n rest held e b =
+forth h w rest held e b =
     by-test (is_out_of_range h)
-    (λ t. let z : Refused 3 ≡ Length n = sym (ap (λ (w : Written). w.size) (write-range h t)) ∙ e in
-    let never : ◌≡◌ {A = ℕ} 0 1 = cc in
-    absurd (omega arith))
+    (λ t. let z : Err Range ≡ Ok w = sym (write-range h t) ∙ e in cc)
     (λ t.
     by-test (known h.opcode)
-    (λ k. whole-header t k)
-    (λ k. let z : Refused 12 ≡ Length n = sym (ap (λ (w : Written). w.size) (write-opcode h t k)) ∙ e in
-    let never : ◌≡◌ {A = ℕ} 0 1 = cc in
-    absurd (omega arith)))
+    (λ k.
+    let z : Ok (out_of h) ≡ Ok w = sym (write-whole h t k) ∙ e in
+    let same : out_of h ≡ w = cc in
+    subst Reads same (whole-header t k))
+    (λ k. let z : Err Opcode ≡ Ok w = sym (write-opcode h t k) ∙ e in cc))
   where
-    whole-header : is_out_of_range h ≡ false → known h.opcode ≡ true → read_of (take n (write_of h).bytes ++ rest) ≡ Read (kept h) n (length rest - h.pad)
+    Reads : Written → Type 0
+    Reads w = read_of (take w.length w.bytes ++ rest) ≡ Ok (record { header = kept h; length = w.length; payload = length rest - h.pad })
+
+    whole-header : is_out_of_range h ≡ false → known h.opcode ≡ true → Reads (out_of h)
     whole-header t k =
-        let w = write-whole h t k in
-        let z : Length (header_length h.opcode) ≡ Length n = sym (ap (λ (x : Written). x.size) w) ∙ e in
-        let places : header_length h.opcode ≡ n = cc in
-        let cut : take n (write_of h).bytes ≡ written h =
-        ap (λ (x : Written). take n x.bytes) w
-        ∙ take_at (written h) (replicate (header_bytes - header_length h.opcode) 0) n (written-length h ∙ places) in
-        ap (λ (l : List ℕ). read_of (l ++ rest)) cut
+        let n = header_length h.opcode in
+        ap (λ (l : List ℕ). read_of (l ++ rest)) (take_at (written h) (replicate (header_bytes - n) 0) n (written-length h))
         ∙ read_back h held (in-range h t) k rest b
-        ∙ ap (λ (m : ℕ). Read (kept h) m (length rest - h.pad)) places

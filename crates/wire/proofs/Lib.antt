@@ -8,5 +8,4 @@ pub mod Parts
 pub mod Reading
 pub mod Rows
 pub mod Seeing
-pub mod Table
 pub mod Writing

@@ -1,22 +1,21 @@
 -- Reading, case by case: each field in its own header, what is refused, and what is read. Assumes nothing.
-use Rattle.std.specs.Prelude.{if◌then◌else◌}
+use Rattle.std.specs.Prelude.{Ok, Err, if◌then◌else◌}
 use mathlib.Core.Path.{◌≡◌, refl, sym, ◌∙◌, ap}
-use mathlib.Core.Bool.{Bool, true, false, not, ◌&&◌, ◌||◌, true≢false}
+use mathlib.Core.Bool.{Bool, true, false, true≢false}
 use mathlib.Core.List.{List, [], ◌∷◌, ◌++◌}
-use Prim.Native.Nat.{ℕ, ◌+◌, ◌-◌, ◌%◌, ◌≤◌, ◌<◌}
+use Prim.Native.Nat.{ℕ, ◌+◌, ◌≤◌, ◌<◌}
 use native.Mathlib.Omega.{arith}
 use native.Mathlib.Nat.{zero-add}
-use lib.Dec.{ltb, eqb}
 use lib.ListN.{length}
-use borrow.Author.Tests.{ltb-false, lt-ltb, le-ltb, eq-eqb, ne_eqb}
-use Rattle.refusal.proofs.Cases.{by-test, or_left, or_right}
+use borrow.Author.Tests.{lt-ltb, le-ltb, eq-eqb, ne_eqb}
+use Rattle.refusal.specs.declared.Refusal.TheVariants.{Short, Opcode, Version, Rest}
+use Rattle.refusal.proofs.Cases.{by-test}
 use Rattle.wire.specs.Bytes.{number, AllBytes}
 use Rattle.wire.specs.Layout as fields
 use Rattle.wire.specs.Layout.{Name, Layout, bth, reth, immediate_data, aeth, same, has, field}
 use Rattle.wire.specs.Opcodes.{known, has_reth, has_immediate, has_aeth, is_bare, joined, layout, header_length, row_of}
-use Rattle.wire.specs.Frame.{got, opcode_of, length_of, rest_of, value_in, is_bad_rest, read_of}
+use Rattle.wire.specs.Frame.{got, opcode_of, length_of, rest_of, value_in, is_bad_rest, frame_of, read_of}
 use Rattle.wire.specs.Inner.Seen.{seen, found, count, bth_in, reth_in, immediate_in, aeth_in, header_in}
-use Rattle.wire.specs.declared.Frame.TheVariants.{Read, Refused}
 use Rattle.wire.proofs.Rows.{size-carried, size-joined}
 use Rattle.wire.proofs.Seeing.{seen-take, one_byte, found_first, found-second}
 use Rattle.wire.proofs.Parts.{bth-bytes}
@@ -136,38 +135,32 @@ module _ (s : List ℕ) (small : AllBytes s) (long : length_of s ≤ length s) w
 
 -- ---- the cases of `read_of`
 
--- a rest that is not refused holds its pad
-pub pad-fits : (rest pad : ℕ) (bare : Bool) → is_bad_rest rest pad bare ≡ false → pad ≤ rest
-pad-fits rest pad bare e =
-    ltb-false rest pad
-    (or_left (ltb rest pad) ((bare && ltb 0 rest) || false) (or_right (not (eqb (rest % 4) 0)) (ltb rest pad || ((bare && ltb 0 rest) || false)) e))
-
 module _ (s : List ℕ) where
-  pub read_short : length s < 12 → read_of s ≡ Refused 11
+  pub read_short : length s < 12 → read_of s ≡ Err Short
   unfolding read_of
   read_short h = rw (lt-ltb (length s) 12 h)
 
   module _ (h : 12 ≤ length s) where
-    pub read-opcode : known (opcode_of s) ≡ false → read_of s ≡ Refused 12
+    pub read-opcode : known (opcode_of s) ≡ false → read_of s ≡ Err Opcode
     unfolding read_of
     read-opcode k = rw (le-ltb (length s) 12 h, k)
 
     module _ (k : known (opcode_of s) ≡ true) where
-      pub read-cut : length s < length_of s → read_of s ≡ Refused 11
+      pub read-cut : length s < length_of s → read_of s ≡ Err Short
       unfolding read_of
       read-cut l = rw (le-ltb (length s) 12 h, k, lt-ltb (length s) (length_of s) l)
 
       module _ (l : length_of s ≤ length s) where
-        pub read-version : (value_in s fields.version ≡ 0 → ⊥) → read_of s ≡ Refused 13
+        pub read-version : (value_in s fields.version ≡ 0 → ⊥) → read_of s ≡ Err Version
         unfolding read_of
         read-version v = rw (le-ltb (length s) 12 h, k, le-ltb (length s) (length_of s) l, ne_eqb (value_in s fields.version) 0 v)
 
         module _ (v : value_in s fields.version ≡ 0) where
-          pub read-rest : is_bad_rest (rest_of s) (value_in s fields.pad) (is_bare (opcode_of s)) ≡ true → read_of s ≡ Refused 14
+          pub read-rest : is_bad_rest (rest_of s) (value_in s fields.pad) (is_bare (opcode_of s)) ≡ true → read_of s ≡ Err Rest
           unfolding read_of
           read-rest b = rw (le-ltb (length s) 12 h, k, le-ltb (length s) (length_of s) l, eq-eqb (value_in s fields.version) 0 v, b)
 
           pub read_whole : is_bad_rest (rest_of s) (value_in s fields.pad) (is_bare (opcode_of s)) ≡ false
-              → read_of s ≡ Read (got (value_in s)) (length_of s) (rest_of s - value_in s fields.pad)
+              → read_of s ≡ Ok (frame_of s)
           unfolding read_of
           read_whole b = rw (le-ltb (length s) 12 h, k, le-ltb (length s) (length_of s) l, eq-eqb (value_in s fields.version) 0 v, b)

@@ -1,6 +1,6 @@
 -- What the table says of an opcode's headers. Assumes nothing.
-use Rattle.std.specs.Prelude.{if◌then◌else◌}
-use mathlib.Core.Path.{◌≡◌, refl, ap}
+use Rattle.std.specs.Prelude.{None, Some, if◌then◌else◌}
+use mathlib.Core.Path.{◌≡◌, refl, sym, ◌∙◌}
 use mathlib.Core.Bool.{Bool, true, false}
 use mathlib.Core.List.{[], ◌++◌}
 use Prim.Native.Nat.{ℕ, ◌+◌, ◌*◌, ◌/◌, ◌≤◌, ◌<◌}
@@ -9,27 +9,24 @@ use lib.Dec.{leb}
 use borrow.Author.Tests.{leb-true}
 use Rattle.refusal.proofs.Below.{below-every}
 use Rattle.refusal.proofs.Cases.{by-test}
+use Rattle.refusal.proofs.Given.{some-not-none}
 use Rattle.wire.specs.Bytes.{octet}
 use Rattle.wire.specs.Layout.{Layout, bth, reth, immediate_data, aeth, size}
-use Rattle.wire.specs.Opcodes.{known, has_reth, has_immediate, has_aeth, joined, layout, header_length, row_of, nothing, carries_of}
+use Rattle.wire.specs.Opcodes.{known, has_reth, has_immediate, has_aeth, joined, layout, header_length, row_of, carries_of}
 use Rattle.wire.specs.Header.{header_bytes}
 use Rattle.wire.specs.Inner.Seen.{count}
 use Rattle.wire.specs.declared.opcode.Carries.{Carries}
 use Rattle.wire.proofs.Fields.{size-append}
 
-pub carries-known : (op : ℕ) → known op ≡ true → carries_of op ≡ row_of op
+pub carries-known : (op : ℕ) → known op ≡ true → carries_of op ≡ Some (row_of op)
 unfolding carries_of
 carries-known op e = rw e
 
-pub carries-unknown : (op : ℕ) → known op ≡ false → carries_of op ≡ nothing
+pub carries-unknown : (op : ℕ) → known op ≡ false → carries_of op ≡ None
 unfolding carries_of
 carries-unknown op e = rw e
 
 -- ---- whole bytes
-
-pub count_most : (t : Bool) (k : ℕ) → count t k ≤ k
-count_most true k = omega arith
-count_most false k = omega arith
 
 pub size-carried : (t : Bool) (fs : Layout) (k : ℕ) → size fs ≡ octet * k → size (if t then fs else []) ≡ octet * count t k
 size-carried true fs k e = e
@@ -76,13 +73,17 @@ short op h = below-every (λ n. leb (header_length n) header_bytes) 18 refl op h
 pub length_most : (op : ℕ) → known op ≡ true → header_length op ≤ header_bytes
 length_most op e = leb-true (header_length op) header_bytes (short op (omega (arith, leb-true op 17 e)))
 
--- an opcode that is not known is one whose row has no length
-pub unknown-by-length : (op : ℕ) → (carries_of op).length ≡ 0 → known op ≡ false
-unknown-by-length op e =
-    by-test (known op)
-    (λ k. absurd (omega (arith, length-least op, e, ap (λ (r : Carries). r.length) (carries-known op k))))
-    (λ k. k)
+-- an opcode that is not known is one with no row
+pub unknown-by-row : (op : ℕ) → carries_of op ≡ None → known op ≡ false
+unknown-by-row op e =
+    by-test (known op) (λ k. some-not-none (sym (carries-known op k) ∙ e)) (λ k. k)
 
-pub known-by-length : (op : ℕ) → ((carries_of op).length ≡ 0 → ⊥) → known op ≡ true
-known-by-length op e =
-    by-test (known op) (λ k. k) (λ k. absurd (e (ap (λ (r : Carries). r.length) (carries-unknown op k))))
+pub known-by-row : (op : ℕ) (row : Carries) → carries_of op ≡ Some row → known op ≡ true
+known-by-row op row e =
+    by-test (known op) (λ k. k) (λ k. some-not-none (sym e ∙ carries-unknown op k))
+
+-- and a row is its own opcode's
+pub row-by-row : (op : ℕ) (row : Carries) → carries_of op ≡ Some row → row ≡ row_of op
+row-by-row op row e =
+    let z : Some row ≡ Some (row_of op) = sym e ∙ carries-known op (known-by-row op row e) in
+    cc

@@ -7,6 +7,7 @@ use native.Mathlib.Omega.{arith}
 use native.Mathlib.Nat.{zero-add, add-zero, suc-add, add-suc, mod-eq_of_lt}
 use lib.ListN.{length, get_or, take, drop}
 use lib.Seq.{drop-cons}
+use Rattle.std.specs.Int.{w16, w32, w64, from_be_bytes}
 use Rattle.refusal.proofs.Cases.{by-test}
 use Rattle.wire.specs.Bytes.{octet, number, AllBytes}
 use Rattle.wire.specs.Layout.{Name, Layout, ◌bits◌, size, same, has, field}
@@ -44,11 +45,6 @@ number-seen s at m k =
     ap number (seen-append s at m k)
     ∙ number_append (seen s at m) (seen s (at + m) k)
     ∙ ap (λ (l : ℕ). number (seen s at m) * 2 ^ (octet * l) + number (seen s (at + m) k)) (seen-length s (at + m) k)
-
--- the higher bytes and the lower
-pub join-seen : (s : List ℕ) (at m k x y : ℕ) → x ≡ number (seen s at m) → y ≡ number (seen s (at + m) k)
-    → x * 2 ^ (octet * k) + y ≡ number (seen s at (m + k))
-join-seen s at m k x y p q = ap₂ (λ (a b : ℕ). a * 2 ^ (octet * k) + b) p q ∙ sym (number-seen s at m k)
 
 pub seen_below : (s : List ℕ) → AllBytes s → (at k : ℕ) → number (seen s at k) < 2 ^ (octet * k)
 seen_below s h at k = subst (λ (l : ℕ). number (seen s at k) < 2 ^ (octet * l)) (seen-length s at k) (number-below (seen s at k) (seen_bytes s h at k))
@@ -112,3 +108,31 @@ module _ (s : List ℕ) (small : AllBytes s) (at i k j : ℕ) (n : Name) (fs : L
       → found s at (i + k + j) (fs ++ (n bits (octet * k) ∷ []) ++ gs) n ≡ number (seen s (at + i) k)
   found-place gs q e f =
       found-group (n bits (octet * k) ∷ []) gs (add-zero (octet * k)) q e f ∙ found-one s small (at + i) k n
+
+-- bytes that are each what stands at their place
+pub seen-each : (s : List ℕ) (at k : ℕ) (xs : List ℕ) → length xs ≡ k → ((i : ℕ) → i < k → get_or xs i 0 ≡ get_or s (at + i) 0) → xs ≡ seen s at k
+seen-each s at zero [] e h = refl
+seen-each s at zero (x ∷ xs) e h = absurd (omega (arith, e))
+seen-each s at (suc k) [] e h = absurd (omega (arith, e))
+seen-each s at (suc k) (x ∷ xs) e h =
+    let first : x ≡ get_or s at 0 = h 0 (omega arith) ∙ ap (λ (i : ℕ). get_or s i 0) (add-zero at) in
+    let others : (i : ℕ) → i < k → get_or xs i 0 ≡ get_or s (suc at + i) 0 =
+    λ i l. h (suc i) (omega arith) ∙ ap (λ (i : ℕ). get_or s i 0) (add-suc at i ∙ sym (suc-add at i)) in
+    ap₂ (λ (y : ℕ) (ys : List ℕ). y ∷ ys) first (seen-each s (suc at) k xs (omega (arith, e)) others)
+
+-- the library's word for a number of so many bytes is ours
+pub two_bytes : (s : List ℕ) (at : ℕ) → from_be_bytes w16 (seen s at 2) ≡ number (seen s at 2)
+unfolding number
+two_bytes s at = omega arith
+
+pub three_bytes : (s : List ℕ) (at : ℕ) → from_be_bytes w32 (0 ∷ seen s at 3) ≡ number (seen s at 3)
+unfolding number
+three_bytes s at = omega arith
+
+pub four_bytes : (s : List ℕ) (at : ℕ) → from_be_bytes w32 (seen s at 4) ≡ number (seen s at 4)
+unfolding number
+four_bytes s at = omega arith
+
+pub eight_bytes : (s : List ℕ) (at : ℕ) → from_be_bytes w64 (seen s at 8) ≡ number (seen s at 8)
+unfolding number
+eight_bytes s at = omega arith

@@ -1,14 +1,16 @@
 -- Reading a frame. Assumes nothing.
-use Rattle.std.specs.Prelude.{Bool, not, ◌&&◌, List, [], ◌∷◌, ℕ, ◌-◌, ◌%◌, ltb, eqb, length, take, get_or, if◌then◌else◌}
+use Rattle.std.specs.Prelude.{Bool, not, ◌&&◌, List, [], ◌∷◌, ℕ, ◌-◌, ◌%◌, ltb, eqb, length, take, get_or, Result}
+use Rattle.refusal.specs.declared.Refusal.{Refusal}
+use Rattle.refusal.specs.declared.Refusal.TheVariants.{Short, Opcode, Version, Rest}
 use Rattle.refusal.specs.Choice.{any_of}
 use Rattle.refusal.specs.Refusals.{Row, ◌gives◌, first_given}
 use Rattle.wire.specs.Bytes.{number}
 use Rattle.wire.specs.Layout as fields
 use Rattle.wire.specs.Layout.{Name, field}
 use Rattle.wire.specs.Opcodes.{known, is_bare, layout, header_length}
+use Rattle.wire.specs.Header.{answered}
 use Rattle.wire.specs.declared.Header.{Header}
 use Rattle.wire.specs.declared.Frame.{Frame}
-use Rattle.wire.specs.declared.Frame.TheVariants.{Read, Refused}
 
 -- the fields of a header, read back; the writer's own three, the version and reserved bits are not kept
 abbrev pub got : (Name → ℕ) → Header
@@ -47,15 +49,16 @@ is_bad_rest rest pad bare = any_of (not (eqb (rest % 4) 0) ∷ ltb rest pad ∷ 
 -- 11: "frame shorter than its headers (below 12 bytes, or below what its opcode needs)"; 12: "opcode not 0 to 17"; 13: "transport version not 0"
 abbrev pub frame_refusals : List ℕ → List Row
 frame_refusals s =
-    ltb (length s) 12 gives 11
-    ∷ not (known (opcode_of s)) gives 12
-    ∷ ltb (length s) (length_of s) gives 11
-    ∷ not (eqb (value_in s fields.version) 0) gives 13
-    ∷ is_bad_rest (rest_of s) (value_in s fields.pad) (is_bare (opcode_of s)) gives 14
+    ltb (length s) 12 gives Short
+    ∷ not (known (opcode_of s)) gives Opcode
+    ∷ ltb (length s) (length_of s) gives Short
+    ∷ not (eqb (value_in s fields.version) 0) gives Version
+    ∷ is_bad_rest (rest_of s) (value_in s fields.pad) (is_bare (opcode_of s)) gives Rest
     ∷ []
 
 -- "also answers header and payload length (rest less pad)"
-unfoldable pub read_of : List ℕ → Frame
-read_of s =
-    let n = first_given (frame_refusals s) in
-    if eqb n 0 then Read (got (value_in s)) (length_of s) (rest_of s - value_in s fields.pad) else Refused n
+abbrev pub frame_of : List ℕ → Frame
+frame_of s = record { header = got (value_in s); length = length_of s; payload = rest_of s - value_in s fields.pad }
+
+unfoldable pub read_of : List ℕ → Result Frame Refusal
+read_of s = answered (first_given (frame_refusals s)) (frame_of s)

@@ -1,6 +1,8 @@
 -- Writing a header. Assumes nothing.
-use Rattle.std.specs.Prelude.{Bool, not, List, [], ◌∷◌, ◌++◌, ℕ, ◌-◌, ◌^◌, leb, ltb, eqb, replicate, if◌then◌else◌}
+use Rattle.std.specs.Prelude.{Bool, not, List, [], ◌∷◌, ◌++◌, ℕ, ◌-◌, ◌^◌, leb, ltb, replicate, Option, None, Some, Result, Ok, Err}
 use Rattle.psn.specs.Psn.{psns}
+use Rattle.refusal.specs.declared.Refusal.{Refusal}
+use Rattle.refusal.specs.declared.Refusal.TheVariants.{Range, Opcode}
 use Rattle.refusal.specs.Choice.{any_of}
 use Rattle.refusal.specs.Refusals.{Row, ◌gives◌, first_given}
 use Rattle.wire.specs.Bytes.{bytes}
@@ -9,7 +11,6 @@ use Rattle.wire.specs.Layout.{Name, laid}
 use Rattle.wire.specs.Opcodes.{known, layout, header_length}
 use Rattle.wire.specs.declared.Header.{Header}
 use Rattle.wire.specs.declared.Written.{Written}
-use Rattle.wire.specs.declared.Size.TheVariants.{Length, Refused}
 
 -- "A header goes out as 32 bytes by value"
 abbrev pub header_bytes : ℕ
@@ -44,15 +45,27 @@ abbrev pub is_out_of_range : Header → Bool
 is_out_of_range h = any_of (ltb 3 h.pad ∷ leb (2 ^ 24) h.far ∷ leb psns h.psn ∷ leb (2 ^ 24) h.msn ∷ [])
 
 abbrev pub write_refusals : Header → List Row
-write_refusals h = is_out_of_range h gives 3 ∷ not (known h.opcode) gives 12 ∷ []
+write_refusals h = is_out_of_range h gives Range ∷ not (known h.opcode) gives Opcode ∷ []
 
--- "the 32 bytes are then zeros"
-abbrev pub refused : ℕ → Written
-refused n = record { size = Refused n; bytes = replicate header_bytes 0 }
+-- the refusal that is given, or else the answer
+abbrev pub answered : {A : Type 0} → Option Refusal → A → Result A Refusal
+answered None x = Ok x
+answered (Some r) x = Err r
 
 -- zeros after the header
-unfoldable pub write_of : Header → Written
-write_of h =
-    let n = first_given (write_refusals h) in
+abbrev pub out_of : Header → Written
+out_of h =
     let k = header_length h.opcode in
-    if eqb n 0 then record { size = Length k; bytes = written h ++ replicate (header_bytes - k) 0 } else refused n
+    record { length = k; bytes = written h ++ replicate (header_bytes - k) 0 }
+
+unfoldable pub write_of : Header → Result Written Refusal
+write_of h = answered (first_given (write_refusals h)) (out_of h)
+
+-- what a record of the card holds of it: of a refused header "the 32 bytes are then zeros"
+abbrev pub bytes_of : Result Written Refusal → List ℕ
+bytes_of (Ok w) = w.bytes
+bytes_of (Err r) = replicate header_bytes 0
+
+abbrev pub length_of : Result Written Refusal → ℕ
+length_of (Ok w) = w.length
+length_of (Err r) = 0

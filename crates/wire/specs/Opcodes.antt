@@ -1,5 +1,5 @@
 -- What each opcode carries. Assumes nothing.
-use Rattle.std.specs.Prelude.{Bool, false, not, [], ◌∷◌, ◌++◌, ℕ, ◌/◌, leb, if◌then◌else◌}
+use Rattle.std.specs.Prelude.{Bool, not, [], ◌∷◌, ◌++◌, ℕ, ◌/◌, leb, Option, None, Some, if◌then◌else◌}
 use Rattle.refusal.specs.Choice.{among}
 use Rattle.wire.specs.Bytes.{octet}
 use Rattle.wire.specs.Layout.{Layout, bth, reth, immediate_data, aeth, size}
@@ -47,7 +47,7 @@ layout op = joined (has_reth op) (has_immediate op) (has_aeth op)
 unfoldable pub header_length : ℕ → ℕ
 header_length op = size (layout op) / octet
 
--- a row of the table
+-- a known opcode's row
 abbrev pub row_of : ℕ → Carries
 row_of op =
     record {
@@ -62,20 +62,6 @@ row_of op =
       answer = not (is_request op);
     }
 
--- of an opcode that is not known
-abbrev pub nothing : Carries
-nothing =
-    record {
-      length = 0;
-      reth = false;
-      immediate = false;
-      aeth = false;
-      payload = false;
-      first = false;
-      last = false;
-      request = false;
-      answer = false;
-    }
-
-unfoldable pub carries_of : ℕ → Carries
-carries_of op = if known op then row_of op else nothing
+-- none where the opcode is not known
+unfoldable pub carries_of : ℕ → Option Carries
+carries_of op = if known op then Some (row_of op) else None

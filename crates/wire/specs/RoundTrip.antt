@@ -1,7 +1,7 @@
 -- "Reading a written header, cut to its length and followed by a rest that 14 allows, gives the same fields (those the opcode lacks are not
 -- written and read as 0); writing what was read gives the same bytes when the reserved bits were zero and those three as written."
 -- The words of the two theorems of proofs/Forth.antt and proofs/Back.antt. Assumes nothing.
-use Rattle.std.specs.Prelude.{◌≡◌, false, List, ◌++◌, ℕ, ◌-◌, ◌^◌, ◌<◌, length, take, replicate, if◌then◌else◌}
+use Rattle.std.specs.Prelude.{◌≡◌, false, List, ◌++◌, ℕ, ◌-◌, ◌^◌, ◌<◌, length, take, replicate, Ok, if◌then◌else◌}
 use Rattle.wire.specs.Bytes.{AllBytes}
 use Rattle.wire.specs.Layout as fields
 use Rattle.wire.specs.Layout.{has}
@@ -9,8 +9,8 @@ use Rattle.wire.specs.Opcodes.{is_bare, layout}
 use Rattle.wire.specs.Header.{header_bytes, put, write_of}
 use Rattle.wire.specs.Frame.{got, value_in, is_bad_rest, read_of}
 use Rattle.wire.specs.declared.Header.{Header}
-use Rattle.wire.specs.declared.Size.TheVariants.{Length}
-use Rattle.wire.specs.declared.Frame.TheVariants.{Read}
+use Rattle.wire.specs.declared.Written.{Written}
+use Rattle.wire.specs.declared.Frame.{Frame}
 
 -- a header whose numbers fit their fields in memory, as every header of the code does
 pub record Held (h : Header) : Type 0 where
@@ -28,8 +28,8 @@ kept h = got (λ n. if has n (layout h.opcode) then put h n else 0)
 -- "Reading a written header, cut to its length and followed by a rest that 14 allows, gives the same fields"
 abbrev pub Forth : Type 0
 Forth =
-    (h : Header) (n : ℕ) (rest : List ℕ) → Held h → (write_of h).size ≡ Length n → is_bad_rest (length rest) h.pad (is_bare h.opcode) ≡ false
-    → read_of (take n (write_of h).bytes ++ rest) ≡ Read (kept h) n (length rest - h.pad)
+    (h : Header) (w : Written) (rest : List ℕ) → Held h → write_of h ≡ Ok w → is_bad_rest (length rest) h.pad (is_bare h.opcode) ≡ false
+    → read_of (take w.length w.bytes ++ rest) ≡ Ok (record { header = kept h; length = w.length; payload = length rest - h.pad })
 
 -- "the reserved bits were zero and those three as written"
 pub record AsWritten (s : List ℕ) : Type 0 where
@@ -42,5 +42,5 @@ pub record AsWritten (s : List ℕ) : Type 0 where
 -- "writing what was read gives the same bytes"
 abbrev pub Back : Type 0
 Back =
-    (s : List ℕ) (h : Header) (n payload : ℕ) → AllBytes s → read_of s ≡ Read h n payload → AsWritten s
-    → write_of h ≡ record { size = Length n; bytes = take n s ++ replicate (header_bytes - n) 0 }
+    (s : List ℕ) (f : Frame) → AllBytes s → read_of s ≡ Ok f → AsWritten s
+    → write_of f.header ≡ Ok (record { length = f.length; bytes = take f.length s ++ replicate (header_bytes - f.length) 0 })

@@ -5,12 +5,12 @@ mod opcode;
 mod reader;
 mod writer;
 
-pub use opcode::Carries;
+pub use opcode::{Carries, has_immediate, has_reth, is_last};
 pub use reader::read;
 pub use writer::write;
 
 // A header's fields by value; those that its opcode lacks are not written and read as 0.
-#[derive(Clone, Copy)]
+#[derive(Clone, Copy, Debug, PartialEq, Eq)]
 pub struct Header {
     pub opcode: u8,
     pub pad: u8,
@@ -25,29 +25,21 @@ pub struct Header {
     pub msn: u32,
 }
 
-// How many of the bytes the header takes, or the refusal's number.
-#[derive(Clone, Copy)]
-pub enum Size {
-    Length(u32),
-    Refused(u8),
-}
-
 // A header goes out as this many bytes, zeros after its own.
 pub const HEADER_BYTES: usize = 32;
 
-#[derive(Clone, Copy)]
+// Document 01 has 32 bytes by value, and there is no heap.
+#[derive(Clone, Copy, Debug, PartialEq, Eq)]
 pub struct Written {
-    pub size: Size,
+    // How many of the bytes are the header's.
+    pub length: u32,
     pub bytes: [u8; HEADER_BYTES],
 }
 
-// What a frame holds, with the length of its headers and of its payload, or the refusal's number.
-#[derive(Clone, Copy)]
-pub enum Frame {
-    Read {
-        header: Header,
-        length: u32,
-        payload: usize,
-    },
-    Refused(u8),
+// What a frame holds, with the length of its headers and of its payload.
+#[derive(Clone, Copy, Debug, PartialEq, Eq)]
+pub struct Frame {
+    pub header: Header,
+    pub length: u32,
+    pub payload: usize,
 }

@@ -1,52 +1,24 @@
-// What each opcode carries: one table, read by the writer, the reader and the engine. A new opcode is a row.
-ghost use Rattle.std.specs.Prelude.{◌≡◌};
-ghost use Rattle.wire.specs.Opcodes.{carries_of};
+// What each opcode carries, read by the writer, the reader and the engine:
+// Send First 0, Middle 1, Last 2, Last with immediate 3, Only 4, Only with immediate 5; Write 6 to 11 alike;
+// Read Request 12; Read Response First 13, Middle 14, Last 15, Only 16; Acknowledge 17.
+// Numbers and no enum: `opcode_at` computes them, and a host may lend any.
+ghost use Rattle.std.specs.Prelude.{◌≡◌, ◌/◌};
+ghost use Rattle.wire.specs.Bytes.{octet};
+ghost use Rattle.wire.specs.Layout.{size};
+ghost use Rattle.wire.specs.Opcodes.{has_reth, has_immediate, has_aeth, is_bare, is_first, is_last, joined, carries_of};
 
-// A row is a sum: each header adds its bytes to the low eight bits and a bit of its own above them.
-const BTH: u32 = 12;
+// The bytes of each header.
+pub(crate) const BTH: u32 = 12;
 
-const RETH: u32 = 0x100 + 16;
+pub(crate) const RETH: u32 = 16;
 
-const IMMEDIATE: u32 = 0x200 + 4;
+pub(crate) const IMMEDIATE: u32 = 4;
 
-const AETH: u32 = 0x400 + 4;
+const AETH: u32 = 4;
 
-const PAYLOAD: u32 = 0x800;
-
-const FIRST: u32 = 0x1000;
-
-const LAST: u32 = 0x2000;
-
-const REQUEST: u32 = 0x4000;
-
-const ANSWER: u32 = 0x8000;
-
-const ONLY: u32 = FIRST + LAST;
-
-const ROWS: [u32; 18] = [
-    BTH + REQUEST + PAYLOAD + FIRST, // 0 Send First
-    BTH + REQUEST + PAYLOAD, // 1 Middle
-    BTH + REQUEST + PAYLOAD + LAST, // 2 Last
-    BTH + REQUEST + PAYLOAD + LAST + IMMEDIATE, // 3 Last with immediate
-    BTH + REQUEST + PAYLOAD + ONLY, // 4 Only
-    BTH + REQUEST + PAYLOAD + ONLY + IMMEDIATE, // 5 Only with immediate
-    BTH + REQUEST + PAYLOAD + FIRST + RETH, // 6 Write First
-    BTH + REQUEST + PAYLOAD, // 7 Middle
-    BTH + REQUEST + PAYLOAD + LAST, // 8 Last
-    BTH + REQUEST + PAYLOAD + LAST + IMMEDIATE, // 9 Last with immediate
-    BTH + REQUEST + PAYLOAD + ONLY + RETH, // 10 Only
-    BTH + REQUEST + PAYLOAD + ONLY + RETH + IMMEDIATE, // 11 Only with immediate
-    BTH + REQUEST + ONLY + RETH, // 12 Read Request
-    BTH + ANSWER + PAYLOAD + FIRST + AETH, // 13 Read Response First
-    BTH + ANSWER + PAYLOAD, // 14 Middle
-    BTH + ANSWER + PAYLOAD + LAST + AETH, // 15 Last
-    BTH + ANSWER + PAYLOAD + ONLY + AETH, // 16 Only
-    BTH + ANSWER + ONLY + AETH, // 17 Acknowledge
-];
-
-#[derive(Clone, Copy)]
+#[derive(Clone, Copy, Debug, PartialEq, Eq)]
 pub struct Carries {
-    // All headers together, in bytes; 0 for an opcode that is not known.
+    // All headers together, in bytes.
     pub length: u32,
     pub reth: bool,
     pub immediate: bool,
@@ -58,26 +30,72 @@ pub struct Carries {
     pub answer: bool,
 }
 
+// Of any number, since a post's split computes opcodes in 64 bits.
+pub fn has_reth(opcode: u64) -> bool
+    ensures { result ≡ has_reth opcode }
+{
+    matches!(opcode, 6 | 10 | 11 | 12)
+}
+
+pub fn has_immediate(opcode: u64) -> bool
+    ensures { result ≡ has_immediate opcode }
+{
+    matches!(opcode, 3 | 5 | 9 | 11)
+}
+
+fn has_aeth(opcode: u64) -> bool
+    ensures { result ≡ has_aeth opcode }
+{
+    matches!(opcode, 13 | 15 | 16 | 17)
+}
+
+fn is_bare(opcode: u64) -> bool
+    ensures { result ≡ is_bare opcode }
+{
+    matches!(opcode, 12 | 17)
+}
+
+fn is_first(opcode: u64) -> bool
+    ensures { result ≡ is_first opcode }
+{
+    matches!(opcode, 0 | 4 | 5 | 6 | 10 | 11 | 12 | 13 | 16 | 17)
+}
+
+pub fn is_last(opcode: u64) -> bool
+    ensures { result ≡ is_last opcode }
+{
+    matches!(opcode, 2 | 3 | 4 | 5 | 8 | 9 | 10 | 11 | 12 | 15 | 16 | 17)
+}
+
+fn length(reth: bool, immediate: bool, aeth: bool) -> u32
+    ensures { result ≡ size (joined reth immediate aeth) / octet }
+{
+    BTH + u32::from(reth) * RETH + u32::from(immediate) * IMMEDIATE + u32::from(aeth) * AETH
+}
+
 impl Carries {
-    // An opcode's row, or a row of nothing where it is not known.
-    pub fn of(opcode: u8) -> Carries
+    // None where the opcode is not known.
+    pub fn of(opcode: u8) -> Option<Carries>
         ensures { result ≡ carries_of opcode }
     {
-        let at = opcode as usize;
-        let mut row: u32 = 0;
-        if at < 18 {
-            row = ROWS[at];
+        if opcode > 17 {
+            return None;
         }
-        Carries {
-            length: row % 256,
-            reth: row / 0x100 % 2 == 1,
-            immediate: row / 0x200 % 2 == 1,
-            aeth: row / 0x400 % 2 == 1,
-            payload: row / PAYLOAD % 2 == 1,
-            first: row / FIRST % 2 == 1,
-            last: row / LAST % 2 == 1,
-            request: row / REQUEST % 2 == 1,
-            answer: row / ANSWER % 2 == 1,
-        }
+        let op = u64::from(opcode);
+        let reth = has_reth(op);
+        let immediate = has_immediate(op);
+        let aeth = has_aeth(op);
+        let request = op <= 12;
+        Some(Carries {
+            length: length(reth, immediate, aeth),
+            reth,
+            immediate,
+            aeth,
+            payload: !is_bare(op),
+            first: is_first(op),
+            last: is_last(op),
+            request,
+            answer: !request,
+        })
     }
 }

@@ -1,31 +1,29 @@
 // The reader: any bytes to the fields of their headers.
-ghost use Rattle.std.specs.Prelude.{◌≡◌, not, ◌+◌, ◌≤◌};
+ghost use Rattle.std.specs.Prelude.{◌≡◌, not, ◌+◌, ◌≤◌, slice_index};
 ghost use Rattle.wire.specs.Bytes.{number};
 ghost use Rattle.wire.specs.Inner.Seen.{seen, count, bth_in, reth_in, immediate_in, aeth_in, header_in};
 ghost use Rattle.wire.specs.Frame.{is_bad_rest, read_of};
 
-use crate::opcode::Carries;
+use crate::opcode::{BTH, Carries, IMMEDIATE, RETH};
 use crate::{Frame, Header};
 use refusal::Refusal;
 
 // Where a header's fields begin, from the header's start.
-const FLAGS_AT: usize = 1;
-
 const PKEY_AT: usize = 2;
 
 const FAR_AT: usize = 5;
 
 const PSN_AT: usize = 9;
 
-const BTH_BYTES: usize = 12;
+const BTH_BYTES: usize = BTH as usize;
 
 const KEY_AT: usize = 8;
 
 const LENGTH_AT: usize = 12;
 
-const RETH_BYTES: usize = 16;
+const RETH_BYTES: usize = RETH as usize;
 
-const IMMEDIATE_BYTES: usize = 4;
+const IMMEDIATE_BYTES: usize = IMMEDIATE as usize;
 
 const MSN_AT: usize = 1;
 
@@ -39,84 +37,72 @@ struct Bth {
     psn: u32,
 }
 
-#[derive(Clone, Copy)]
+#[derive(Clone, Copy, Default)]
 struct Reth {
     address: u64,
     key: u32,
     length: u32,
 }
 
-#[derive(Clone, Copy)]
+#[derive(Clone, Copy, Default)]
 struct Aeth {
     syndrome: u8,
     msn: u32,
 }
 
-// A frame's bytes as numbers. What lies past its end reads as 0, so none of these can fail.
+// What lies past a frame's end reads as 0.
 fn byte(s: &[u8], at: usize) -> u8
-    ensures { result ≡ number (seen s.now at 1) }
+    ensures { result ≡ slice_index s.now at }
 {
-    if at < s.len() { s[at] } else { 0 }
+    s.get(at).copied().unwrap_or(0)
 }
 
-fn two(s: &[u8], at: usize) -> u16
-    requires { at ≤ 48 }
-    ensures { result ≡ number (seen s.now at 2) }
+fn bytes_at<const N: usize>(s: &[u8], at: usize) -> [u8; N]
+    requires { at ≤ 64 }
+    ensures { result ≡ seen s.now at N }
 {
-    byte(s, at) as u16 * 256 + byte(s, at + 1) as u16
+    let mut field = [0; N];
+    for (i, slot) in field.iter_mut().enumerate() {
+        *slot = byte(s, at + i);
+    }
+    field
 }
 
+// The library has no number of 24 bits.
 fn three(s: &[u8], at: usize) -> u32
-    requires { at ≤ 48 }
+    requires { at ≤ 64 }
     ensures { result ≡ number (seen s.now at 3) }
 {
-    two(s, at) as u32 * 256 + byte(s, at + 2) as u32
-}
-
-fn four(s: &[u8], at: usize) -> u32
-    requires { at ≤ 44 }
-    ensures { result ≡ number (seen s.now at 4) }
-{
-    two(s, at) as u32 * 65_536 + two(s, at + 2) as u32
-}
-
-fn eight(s: &[u8], at: usize) -> u64
-    requires { at ≤ 40 }
-    ensures { result ≡ number (seen s.now at 8) }
-{
-    four(s, at) as u64 * 4_294_967_296 + four(s, at + 4) as u64
+    let [high, middle, low] = bytes_at::<3>(s, at);
+    u32::from_be_bytes([0, high, middle, low])
 }
 
 fn read_bth(s: &[u8]) -> Bth
     ensures { result ≡ bth_in s.now }
 {
-    let flags = byte(s, FLAGS_AT);
+    let [opcode, flags] = bytes_at::<2>(s, 0);
     Bth {
-        opcode: byte(s, 0),
+        opcode,
         pad: flags / 16 % 4,
         version: flags % 16,
-        pkey: two(s, PKEY_AT),
+        pkey: u16::from_be_bytes(bytes_at(s, PKEY_AT)),
         far: three(s, FAR_AT),
         psn: three(s, PSN_AT),
     }
 }
 
+// `carried` is the opcode's word on a header: one that is not carried reads as zeros, so nothing is missing and no Option is made.
 fn read_reth(s: &[u8], at: usize, carried: bool) -> Reth
     requires { at ≤ 28 }
     ensures { result ≡ reth_in s.now at carried }
 {
-    if carried {
-        Reth {
-            address: eight(s, at),
-            key: four(s, at + KEY_AT),
-            length: four(s, at + LENGTH_AT),
-        }
-    } else {
-        Reth {
-            address: 0,
-            key: 0,
-            length: 0,
-        }
+    if !carried {
+        return Reth::default();
+    }
+    Reth {
+        address: u64::from_be_bytes(bytes_at(s, at)),
+        key: u32::from_be_bytes(bytes_at(s, at + KEY_AT)),
+        length: u32::from_be_bytes(bytes_at(s, at + LENGTH_AT)),
     }
 }
 
@@ -124,27 +110,27 @@ fn read_immediate(s: &[u8], at: usize, carried: bool) -> u32
     requires { at ≤ 28 }
     ensures { result ≡ immediate_in s.now at carried }
 {
-    if carried { four(s, at) } else { 0 }
+    if carried {
+        u32::from_be_bytes(bytes_at(s, at))
+    } else {
+        0
+    }
 }
 
 fn read_aeth(s: &[u8], at: usize, carried: bool) -> Aeth
     requires { at ≤ 32 }
     ensures { result ≡ aeth_in s.now at carried }
 {
-    if carried {
-        Aeth {
-            syndrome: byte(s, at),
-            msn: three(s, at + MSN_AT),
-        }
-    } else {
-        Aeth {
-            syndrome: 0,
-            msn: 0,
-        }
+    if !carried {
+        return Aeth::default();
+    }
+    Aeth {
+        syndrome: byte(s, at),
+        msn: three(s, at + MSN_AT),
     }
 }
 
-// The place after a header that may be carried.
+// The place after a header that may be carried: one that is not has no bytes, so nothing is missing and no Option is made.
 fn after(at: usize, carried: bool, bytes: usize) -> usize
     requires { (at ≤ 64) × (bytes ≤ 64) }
     ensures { result ≡ at + count carried bytes }
@@ -182,43 +168,33 @@ fn header(s: &[u8], bth: Bth, carries: Carries) -> Header
 fn is_bad_rest(rest: usize, pad: u8, payload: bool) -> bool
     ensures { result ≡ is_bad_rest rest pad (not payload) }
 {
-    if rest % 4 != 0 {
-        return true;
-    }
-    if rest < pad as usize {
-        return true;
-    }
-    if payload {
-        return false;
-    }
-    rest > 0
+    rest % 4 != 0 || rest < usize::from(pad) || (!payload && rest > 0)
 }
 
-pub fn read(frame: &[u8]) -> Frame
+pub fn read(frame: &[u8]) -> Result<Frame, Refusal>
     ensures { result ≡ read_of frame.now }
 {
     if frame.len() < BTH_BYTES {
-        return Frame::Refused(Refusal::SHORT);
+        return Err(Refusal::Short);
     }
     let bth = read_bth(frame);
-    let carries = Carries::of(bth.opcode);
+    let Some(carries) = Carries::of(bth.opcode) else {
+        return Err(Refusal::Opcode);
+    };
     let length = carries.length as usize;
-    if length == 0 {
-        return Frame::Refused(Refusal::OPCODE);
-    }
     if frame.len() < length {
-        return Frame::Refused(Refusal::SHORT);
+        return Err(Refusal::Short);
     }
     if bth.version != 0 {
-        return Frame::Refused(Refusal::VERSION);
+        return Err(Refusal::Version);
     }
     let rest = frame.len() - length;
     if is_bad_rest(rest, bth.pad, carries.payload) {
-        return Frame::Refused(Refusal::REST);
+        return Err(Refusal::Rest);
     }
-    Frame::Read {
+    Ok(Frame {
         header: header(frame, bth, carries),
         length: carries.length,
-        payload: rest - bth.pad as usize,
-    }
+        payload: rest - usize::from(bth.pad),
+    })
 }

@@ -2,19 +2,27 @@
 ghost use Rattle.std.specs.Prelude.{◌≡◌, [], if◌then◌else◌};
 ghost use Rattle.wire.specs.Bytes.{bytes};
 ghost use Rattle.wire.specs.Layout.{bth, reth, immediate_data, aeth};
-ghost use Rattle.wire.specs.Header.{put, is_out_of_range, refused as refused_by, write_of};
+ghost use Rattle.wire.specs.Header.{put, is_out_of_range, write_of};
 ghost use Rattle.wire.specs.Inner.Out.{filled, Adds, spelled};
 
 use crate::opcode::Carries;
-use crate::{HEADER_BYTES, Header, Size, Written};
+use crate::{HEADER_BYTES, Header, Written};
 use psn::Psn;
 use refusal::Refusal;
 
-// The bytes written so far, with zeros after them. It goes by value from field to field.
+// The bytes written so far, with zeros after them. It goes by value from field to field: there is no heap, and so no Vec.
 #[derive(Clone, Copy)]
 struct Out {
     bytes: [u8; HEADER_BYTES],
     at: usize,
+}
+
+// A number's low 24 bits, for which the library has no type.
+fn three(value: u32) -> [u8; 3]
+    ensures { result ≡ bytes 3 value }
+{
+    let [_, high, middle, low] = value.to_be_bytes();
+    [high, middle, low]
 }
 
 impl Out {
@@ -27,42 +35,23 @@ impl Out {
         }
     }
 
-    fn byte(mut self, value: u8) -> Out
-        ensures { Adds self result (bytes 1 value) }
+    // The bytes go where the header has room for them.
+    fn put(mut self, field: &[u8]) -> Out
+        ensures { Adds self result field.now }
     {
         let at = self.at;
-        if at < HEADER_BYTES {
-            self.bytes[at] = value;
-            self.at = at + 1;
+        if field.len() <= HEADER_BYTES && at <= HEADER_BYTES - field.len() {
+            let end = at + field.len();
+            self.bytes[at..end].copy_from_slice(field);
+            self.at = end;
         }
         self
     }
 
-    fn two(self, value: u16) -> Out
-        ensures { Adds self result (bytes 2 value) }
+    fn byte(self, value: u8) -> Out
+        ensures { Adds self result (bytes 1 value) }
     {
-        self.byte((value / 256) as u8).byte((value % 256) as u8)
-    }
-
-    fn three(self, value: u32) -> Out
-        ensures { Adds self result (bytes 3 value) }
-    {
-        self.byte((value / 65_536 % 256) as u8)
-            .two((value % 65_536) as u16)
-    }
-
-    fn four(self, value: u32) -> Out
-        ensures { Adds self result (bytes 4 value) }
-    {
-        self.two((value / 65_536) as u16)
-            .two((value % 65_536) as u16)
-    }
-
-    fn eight(self, value: u64) -> Out
-        ensures { Adds self result (bytes 8 value) }
-    {
-        self.four((value / 4_294_967_296) as u32)
-            .four((value % 4_294_967_296) as u32)
+        self.put(&[value])
     }
 }
 
@@ -70,31 +59,37 @@ impl Out {
     fn bth(self, h: Header) -> Out
         ensures { Adds self result (spelled (put h) bth) }
     {
-        let out = self.byte(h.opcode).byte(128 + h.pad % 4 * 16).two(h.pkey);
-        out.byte(0).three(h.far).byte(128).three(h.psn)
+        let out = self.byte(h.opcode).byte(128 + h.pad % 4 * 16);
+        let out = out.put(&h.pkey.to_be_bytes()).byte(0).put(&three(h.far));
+        out.byte(128).put(&three(h.psn))
     }
 
+    // One that is not `carried`, as the opcode says, adds nothing: three tests in `write` would be no plainer.
     fn reth(self, carried: bool, h: Header) -> Out
         ensures { Adds self result (spelled (put h) (if carried then reth else [])) }
     {
-        if carried {
-            self.eight(h.address).four(h.key).four(h.length)
-        } else {
-            self
+        if !carried {
+            return self;
         }
+        let out = self.put(&h.address.to_be_bytes());
+        out.put(&h.key.to_be_bytes()).put(&h.length.to_be_bytes())
     }
 
     fn immediate(self, carried: bool, h: Header) -> Out
         ensures { Adds self result (spelled (put h) (if carried then immediate_data else [])) }
     {
-        if carried { self.four(h.value) } else { self }
+        if carried {
+            self.put(&h.value.to_be_bytes())
+        } else {
+            self
+        }
     }
 
     fn aeth(self, carried: bool, h: Header) -> Out
         ensures { Adds self result (spelled (put h) (if carried then aeth else [])) }
     {
         if carried {
-            self.byte(h.syndrome).three(h.msn)
+            self.byte(h.syndrome).put(&three(h.msn))
         } else {
             self
         }
@@ -102,47 +97,29 @@ impl Out {
 }
 
 // Far pair and MSN are 24 bits wide.
-const LIMIT: u32 = 16_777_216;
+const LIMIT: u32 = 1 << 24;
 
 fn is_out_of_range(h: Header) -> bool
     ensures { result ≡ is_out_of_range h }
 {
-    if h.pad > 3 {
-        return true;
-    }
-    if h.far >= LIMIT {
-        return true;
-    }
-    if h.psn >= Psn::COUNT {
-        return true;
-    }
-    h.msn >= LIMIT
+    h.pad > 3 || h.far >= LIMIT || h.psn >= Psn::COUNT || h.msn >= LIMIT
 }
 
-fn refused(number: u8) -> Written
-    ensures { result ≡ refused_by number }
-{
-    Written {
-        size: Size::Refused(number),
-        bytes: [0; HEADER_BYTES],
-    }
-}
-
-pub fn write(h: Header) -> Written
+pub fn write(h: Header) -> Result<Written, Refusal>
     ensures { result ≡ write_of h }
 {
     if is_out_of_range(h) {
-        return refused(Refusal::RANGE);
+        return Err(Refusal::Range);
     }
-    let carries = Carries::of(h.opcode);
-    if carries.length == 0 {
-        return refused(Refusal::OPCODE);
-    }
+    let Some(carries) = Carries::of(h.opcode) else {
+        return Err(Refusal::Opcode);
+    };
     let out = Out::new().bth(h).reth(carries.reth, h);
     let out = out.immediate(carries.immediate, h).aeth(carries.aeth, h);
+    // An array is read out of a struct before it goes into another.
     let bytes = out.bytes;
-    Written {
-        size: Size::Length(carries.length),
+    Ok(Written {
+        length: carries.length,
         bytes,
-    }
+    })
 }

@@ -1,15 +1,15 @@
 -- What it means that a request is not refused: no condition of 1 to 9 holds.
 use mathlib.Core.Path.{◌≡◌}
-use mathlib.Core.Bool.{true, false, not, ◌&&◌, ◌||◌}
+use mathlib.Core.Bool.{false, not, ◌&&◌, ◌||◌}
 use mathlib.Core.List.{List}
 use Prim.Native.Nat.{ℕ, ◌+◌, ◌<◌}
-use native.Mathlib.Omega.{arith}
 use lib.Dec.{eqb, ltb}
 use borrow.Author.Tests.{leb-false, eqb-true, not-false}
 use lib.ListN.{length}
 use Rattle.psn.specs.Psn.{half, distance}
+use Rattle.std.specs.Prelude.{None}
 use Rattle.refusal.specs.Refusals.{first_given}
-use Rattle.refusal.proofs.Given.{Numbered, none-given}
+use Rattle.refusal.proofs.Given.{none-given}
 use Rattle.rules.specs.Card.{Card}
 use Rattle.rules.specs.Account.{Side, U, N}
 use Rattle.rules.specs.Message.{psns_for}
@@ -31,12 +31,9 @@ pub record Accepted (card : Card) (q : Request) (p : ℕ) (a : List Side) : Type
   pub fits : of_response q (λ r opcode len. inside r (side_at a p) && unfit r opcode len (side_at a p)) ≡ false
 
 module _ (card : Card) (q : Request) (p : ℕ) (a : List Side) where
-  numbered : Numbered (refusals card q p a)
-  numbered = omega arith
-
-  pub accepted : eqb (first_given (refusals card q p a)) 0 ≡ true → Accepted card q p a
+  pub accepted : first_given (refusals card q p a) ≡ None → Accepted card q p a
   accepted e =
-      let h = none-given (refusals card q p a) numbered (eqb-true (first_given (refusals card q p a)) 0 e) in
+      let h = none-given (refusals card q p a) e in
       record {
         pair = leb-false card.pairs p h.0;
         state = h.1.0;

@@ -1,12 +1,11 @@
 -- A call on audited tables says what the account says, does to the sides what the account does, and leaves audited tables; so does any run of calls.
 use mathlib.Core.Path.{◌≡◌, refl}
 use mathlib.Core.List.{List, [], ◌∷◌}
-use Prim.Native.Nat.{ℕ}
-use lib.Dec.{eqb}
 use borrow.Author.Tests.{eq-eqb}
 use lib.ListN.{length}
-use Rattle.refusal.proofs.Cases.{by-test}
-use Rattle.rules.specs.declared.Reply.TheVariants.{Refused}
+use Rattle.refusal.proofs.Given.{by-given}
+use Rattle.std.specs.Prelude.{Result, Err}
+use Rattle.refusal.specs.declared.Refusal.{Refusal}
 use Rattle.rules.specs.Card.{Card}
 use Rattle.rules.specs.Account.{Side}
 use Rattle.rules.specs.Slots.{Tables, sides}
@@ -22,7 +21,7 @@ use Rattle.rules.proofs.Calls.Accepted.{accepted}
 use Rattle.rules.proofs.Calls.Moves.{moved, accepted-audit}
 use Rattle.rules.proofs.Calls.Fresh.{fresh-sides, fresh-audit}
 
-pub refused-inj : {m n : ℕ} → Refused m ≡ Refused n → m ≡ n
+pub refused-inj : {A : Type 0} {m n : Refusal} → ◌≡◌ {A = Result A Refusal} (Err m) (Err n) → m ≡ n
 refused-inj e = cc
 
 -- ---- one call: it says what the account says, does what the account does, and leaves audited tables
@@ -36,12 +35,12 @@ module _ (card : Card) where
       (record { said = refl; sides-after = fresh-sides card; audited = fresh-audit card })
   agrees (on p q) t a =
       rw (complete card t a)
-      (by-test (eqb (first_given (refusals card q p (sides t))) 0)
+      (by-given (first_given (refusals card q p (sides t)))
       (λ e.
       let h = accepted card q p (sides t) e in
       let hp = h.pair in
       rw e (record { said = refl; sides-after = (moved card t a p hp q h).same; audited = accepted-audit card t a p hp q h }))
-      (λ e. rw e (record { said = refl; sides-after = refl; audited = a })))
+      (λ k e. rw e (record { said = refl; sides-after = refl; audited = a })))
 
   -- ---- any calls
 

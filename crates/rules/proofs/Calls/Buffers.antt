@@ -27,6 +27,7 @@ use Rattle.rules.specs.Refusals.{side_at, refusals}
 use Rattle.rules.specs.Requests.{Request, opening, posting, emitting, acknowledging, responding, ticking, closing, on, lent}
 use Rattle.rules.proofs.Passes.Decided.{sound}
 use Rattle.refusal.specs.Refusals.{first_given}
+use Rattle.refusal.proofs.Given.{by-given}
 use Rattle.rules.proofs.Calls.Completions.{completions-most}
 use Rattle.rules.proofs.Ranges.{in-range}
 use Rattle.rules.proofs.Calls.Accepted.{Accepted, accepted, is-ready}
@@ -87,7 +88,7 @@ unfolding call
 call_buffer card t p q =
     by-test (passes card t)
     (λ e. rw e
-    (by-test (eqb (first_given (refusals card q p (sides t))) 0)
+    (by-given (first_given (refusals card q p (sides t)))
     (λ z. rw z (buffer-kept card (sides t) (well-of card t (sound card t e)) p q (accepted card q p (sides t) z)))
-    (λ z. rw z)))
+    (λ k z. rw z)))
     (λ e. rw e)

@@ -4,13 +4,13 @@ use mathlib.Core.Logic.{◌≢◌}
 use mathlib.Core.List.{List}
 use Prim.Native.Nat.{ℕ, ◌<◌}
 use native.Mathlib.Omega.{arith}
-use lib.Dec.{eqb}
-use Rattle.refusal.proofs.Cases.{if-case}
+use Rattle.std.specs.Prelude.{None}
+use Rattle.refusal.proofs.Given.{by-given}
 use Rattle.rules.specs.Card.{Card}
 use Rattle.rules.specs.Account.{Side}
 use Rattle.rules.specs.Slots.{Tables, side, sides}
 use Rattle.rules.specs.Audit.{Audit}
-use Rattle.rules.specs.Calls.{effect, side_after, Step, account, call}
+use Rattle.rules.specs.Calls.{effect, side_after, account, call}
 use Rattle.rules.specs.Refusals.{side_at, refusals}
 use Rattle.rules.specs.Requests.{Request, Call, on}
 use Rattle.refusal.specs.Refusals.{first_given}
@@ -26,8 +26,8 @@ module _ (card : Card) where
     others-account : (p : ℕ) (q : Request) (r : ℕ) → r ≢ p → side_at (account card (on p q) (sides t)).next r ≡ side_at (sides t) r
     unfolding account
     others-account p q r d =
-        if-case (λ (s : Step (List Side)). side_at s.next r ≡ side_at (sides t) r) (eqb (first_given (refusals card q p (sides t))) 0)
-        (λ _. side-other (sides t) p r _ d) (λ _. refl)
+        by-given (first_given (refusals card q p (sides t)))
+        (λ e. rw e (side-other (sides t) p r _ d)) (λ k e. rw e refl)
 
     pub others : (p : ℕ) (q : Request) (r : ℕ) → r ≢ p → side (call card (on p q) t).next r ≡ side t r
     others p q r d =
@@ -36,12 +36,12 @@ module _ (card : Card) where
         ∙ others-account p q r d
         ∙ side-at t r
 
-    called-account : (p : ℕ) (q : Request) → p < card.pairs → first_given (refusals card q p (sides t)) ≡ 0
+    called-account : (p : ℕ) (q : Request) → p < card.pairs → first_given (refusals card q p (sides t)) ≡ None
         → side_at (account card (on p q) (sides t)).next p ≡ side_after (effect q (side_at (sides t) p)) (side_at (sides t) p)
     unfolding account
     called-account p q h e = rw e (side_same (sides t) p _ (omega (arith, (well-of card t a).count)))
 
-    pub called : (p : ℕ) (q : Request) → p < card.pairs → first_given (refusals card q p (sides t)) ≡ 0
+    pub called : (p : ℕ) (q : Request) → p < card.pairs → first_given (refusals card q p (sides t)) ≡ None
         → side (call card (on p q) t).next p ≡ side_after (effect q (side t p)) (side t p)
     called p q h e =
         sym (side-at (call card (on p q) t).next p)

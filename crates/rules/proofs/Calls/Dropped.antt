@@ -26,7 +26,9 @@ use Rattle.rules.specs.Passes.Tables.{passes}
 use Rattle.rules.specs.Refusals.{side_at, refusals}
 use Rattle.rules.specs.Requests.{acknowledging, responding, on}
 use Rattle.rules.proofs.Passes.Decided.{sound}
+use Rattle.std.specs.Prelude.{Ok}
 use Rattle.refusal.specs.Refusals.{first_given}
+use Rattle.refusal.proofs.Given.{by-given}
 use Rattle.rules.proofs.Slots.Freed.{freed-none}
 use Rattle.rules.proofs.Calls.Moves.{side-at}
 use Rattle.rules.proofs.Calls.Accepted.{accepted}
@@ -73,26 +75,26 @@ drop-response r s =
 module _ (card : Card) where
   module _ (t : Tables) (p : ℕ) where
     -- a dropped event changes nothing
-    pub dropped-acknowledge : (r y : ℕ) (b : List ℕ) (k j : ℕ) → (call card (on p (acknowledging r y b)) t).said.reply ≡ Answered Dropped k j
+    pub dropped-acknowledge : (r y : ℕ) (b : List ℕ) (k j : ℕ) → (call card (on p (acknowledging r y b)) t).said.reply ≡ Ok (Answered Dropped k j)
         → ((call card (on p (acknowledging r y b)) t).next ≡ t) × ((call card (on p (acknowledging r y b)) t).said.buffer ≡ b)
     unfolding call
     dropped-acknowledge r y b k j =
         by-test (passes card t)
-        (λ e. rw e (by-test (eqb (first_given (refusals card (acknowledging r y b) p (sides t))) 0)
+        (λ e. rw e (by-given (first_given (refusals card (acknowledging r y b) p (sides t)))
         (λ z. rw z (λ d.
         let h = (accepted card (acknowledging r y b) p (sides t) z).pair in
         rw (drop-acknowledge r y (side_at (sides t) p) (cc)) (nothing-moves card t (sound card t e).whole p h, refl)))
-        (λ z. rw z (λ d. (refl, refl)))))
+        (λ i z. rw z (λ d. (refl, refl)))))
         (λ e. rw e (λ d. (refl, refl)))
 
-    pub dropped-response : (r o l : ℕ) (b : List ℕ) (k j : ℕ) → (call card (on p (responding r o l b)) t).said.reply ≡ Answered Dropped k j
+    pub dropped-response : (r o l : ℕ) (b : List ℕ) (k j : ℕ) → (call card (on p (responding r o l b)) t).said.reply ≡ Ok (Answered Dropped k j)
         → ((call card (on p (responding r o l b)) t).next ≡ t) × ((call card (on p (responding r o l b)) t).said.buffer ≡ b)
     unfolding call
     dropped-response r o l b k j =
         by-test (passes card t)
-        (λ e. rw e (by-test (eqb (first_given (refusals card (responding r o l b) p (sides t))) 0)
+        (λ e. rw e (by-given (first_given (refusals card (responding r o l b) p (sides t)))
         (λ z. rw z (λ d.
         let h = (accepted card (responding r o l b) p (sides t) z).pair in
         rw (drop-response r (side_at (sides t) p) (cc)) (nothing-moves card t (sound card t e).whole p h, refl)))
-        (λ z. rw z (λ d. (refl, refl)))))
+        (λ i z. rw z (λ d. (refl, refl)))))
         (λ e. rw e (λ d. (refl, refl)))

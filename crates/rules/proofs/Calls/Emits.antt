@@ -6,6 +6,7 @@ use native.Mathlib.Omega.{arith}
 use lib.Dec.{ltb}
 use borrow.Author.Tests.{le-ltb, lt-leb, eq-eqb}
 use lib.ListN.{length, take, drop, length-take}
+use Rattle.std.specs.Prelude.{None, Ok}
 use Rattle.refusal.specs.Refusals.{first_given}
 use Rattle.refusal.proofs.Cases.{if-case}
 use Rattle.rules.specs.declared.Packet.{Packet}
@@ -41,7 +42,7 @@ laid budget b s o =
     ∙ ap (λ (l : List Packet). emissions s.standing (take (going budget s) l) ++ drop (record_bytes * going budget s) b) (waiting-is s o)
 
 module _ (card : Card) (p budget : ℕ) (b : List ℕ) (t : Tables) (can : CanEmit card p budget b t) where
-  none : first_given (refusals card (emitting budget b) p (sides t)) ≡ 0
+  none : first_given (refusals card (emitting budget b) p (sides t)) ≡ None
   none =
       rw (
         lt-leb card.pairs p can.pair,
@@ -55,9 +56,9 @@ module _ (card : Card) (p budget : ℕ) (b : List ℕ) (t : Tables) (can : CanEm
   in_order : InOrder (side t p)
   in_order = audited-order can.audited p can.pair can.is-ready
 
-  counted : (call card (on p (emitting budget b)) t).said.reply ≡ Count (going budget (side t p))
+  counted : (call card (on p (emitting budget b)) t).said.reply ≡ Ok (Count (going budget (side t p)))
   unfolding call
-  counted = rw (complete card t can.audited, none) (ap (λ (s : Side). Count (going budget s)) (side-at t p))
+  counted = rw (complete card t can.audited, none) (ap (λ (s : Side). Ok (Count (going budget s))) (side-at t p))
 
   laid_in : (call card (on p (emitting budget b)) t).said.buffer ≡ overlaid (emissions (side t p).standing (outgoing budget (side t p))) b
   unfolding call

@@ -6,16 +6,17 @@ use native.Mathlib.Omega.{arith}
 use lib.Dec.{eqb}
 use borrow.Author.Tests.{eqb-true, eqb-false, eq-eqb}
 use lib.ListN.{length, take, drop, replicate, length-set, length-replicate, take-append-drop}
-use Rattle.refusal.proofs.Cases.{by-test, if-case}
+use Rattle.refusal.proofs.Cases.{by-test}
 use Rattle.rules.specs.declared.Packet.{Packet}
 use Rattle.rules.specs.Card.{Card}
 use Rattle.rules.specs.Account.{Side, no_side}
-use Rattle.rules.specs.Calls.{Move, leaves, joins, effect, packets_after, side_after, Step, all_closed, account}
+use Rattle.rules.specs.Calls.{Move, leaves, joins, effect, packets_after, side_after, all_closed, account}
 use Rattle.rules.specs.Outcome.{Departure, departures, completions}
 use Rattle.rules.specs.History.{run, Ledger, blank, accepts, departs, heard, entered, entry, ledger_from}
 use Rattle.rules.specs.Refusals.{side_at, refusals}
 use Rattle.rules.specs.Requests.{Request, Call, starting, on}
 use Rattle.refusal.specs.Refusals.{first_given}
+use Rattle.refusal.proofs.Given.{by-given}
 use Rattle.rules.proofs.Calls.Completions.{packets-departed, completions-append, heard-departed}
 use Rattle.rules.proofs.Calls.Accepted.{accepted}
 use Rattle.rules.proofs.Calls.Well.{side_same, side-other}
@@ -64,7 +65,7 @@ module _ (card : Card) where
         by-test (eqb r p)
         (λ here.
         rw (eqb-true r p here, eq-eqb p p refl)
-        (by-test (eqb (first_given (refusals card q p a)) 0)
+        (by-given (first_given (refusals card q p a))
         (λ e.
         let low : p < length a = omega (arith, b.count, (accepted card q p a e).pair) in
         rw e (record {
@@ -73,12 +74,12 @@ module _ (card : Card) where
               (moved-balanced (effect q (side_at a p)).move l.accepted l.departed (side_at a p).packets b.held);
           told = entered-balanced q (side_at a p) l b.told;
         }))
-        (λ e. rw e b)))
+        (λ k e. rw e b)))
         (λ there.
         rw there
-        (if-case (λ (n : Step (List Side)). Balanced l n.next) (eqb (first_given (refusals card q r a)) 0)
-        (λ e. record { count = length-set a r _ ∙ b.count; held = rw (side-other a r p _ (λ z. eqb-false r p there (sym z))) b.held; told = b.told })
-        (λ e. b)))
+        (by-given (first_given (refusals card q r a))
+        (λ e. rw e (record { count = length-set a r _ ∙ b.count; held = rw (side-other a r p _ (λ z. eqb-false r p there (sym z))) b.held; told = b.told }))
+        (λ k e. rw e b)))
 
     pub blank-balanced : Balanced blank (all_closed card)
     blank-balanced = record { count = length-replicate card.pairs no_side; held = sym (ap (λ (s : Side). s.packets) (closed_at card.pairs p)); told = refl }

@@ -3,13 +3,17 @@ use mathlib.Core.Path.{◌≡◌, ap, ◌∙◌}
 use mathlib.Core.Bool.{false, ◌&&◌}
 use Prim.Native.Nat.{ℕ, ◌+◌, ◌≤◌, ◌<◌}
 use native.Mathlib.Omega.{arith}
-use lib.Dec.{eqb, ltb, leb}
+use lib.Dec.{ltb, leb}
 use borrow.Author.Tests.{leb-false, le-ltb, lt-leb, eq-eqb}
 use lib.ListN.{length, get_or, length-map}
-use Rattle.refusal.proofs.Cases.{by-test, if-case}
+use Rattle.std.specs.Prelude.{Option, None, Ok, Err}
+use Rattle.refusal.specs.declared.Refusal.{Refusal}
+use Rattle.refusal.specs.Numbers.{number}
+use Rattle.refusal.proofs.Cases.{if-case}
+use Rattle.refusal.proofs.Given.{by-given, ok-not-err}
 use Rattle.rules.specs.declared.Post.{Post}
 use Rattle.psn.specs.Psn.{half, distance}
-use Rattle.rules.specs.declared.Reply.TheVariants.{Refused, First}
+use Rattle.rules.specs.declared.Reply.TheVariants.{First}
 use Rattle.rules.specs.Card.{Card}
 use Rattle.rules.specs.Account.{Side, no_side, U, N}
 use Rattle.rules.specs.Message.{slots_for, psns_for}
@@ -30,6 +34,7 @@ use Rattle.rules.proofs.Sides.Good.{claim-open}
 use Rattle.rules.proofs.Calls.Well.{claim-at}
 use Rattle.rules.proofs.Calls.Moves.{side-at, side-length, well-of}
 use Rattle.rules.proofs.Calls.Agrees.{refused-inj}
+use Rattle.rules.proofs.Calls.Refused.{given-number}
 
 module _ (card : Card) where
   module _ (t : Tables) (a : Audit card t) (p : ℕ) (m : Post) where
@@ -47,31 +52,31 @@ module _ (card : Card) where
         (omega (arith, w.count, length-map (sides t) claim_of)) a.shares mine
         (in-range (a.bounded p hp (omega arith)).settings).share-high (omega (arith, side-length t p)))
 
-    number : length (queue t p) + slots_for (side t p).standing.settings m ≤ (side t p).standing.settings.share
-        → first_given (refusals card (posting m) p (sides t)) ≤ 7
-    number l =
+    low : length (queue t p) + slots_for (side t p).standing.settings m ≤ (side t p).standing.settings.share
+        → given-number (first_given (refusals card (posting m) p (sides t))) ≤ 7
+    low l =
         let s = side_at (sides t) p in
         let st = s.standing.settings in
-        if-case (λ (n : ℕ). n ≤ 7) (leb card.pairs p) (λ _. omega arith) (λ hp.
-        if-case (λ (n : ℕ). n ≤ 7) (wrong_state (posting m) s.standing.state) (λ _. omega arith) (λ ready.
-        if-case (λ (n : ℕ). n ≤ 7) (bad_post m) (λ _. omega arith) (λ _.
-        if-case (λ (n : ℕ). n ≤ 7) (over_ceiling st m) (λ _. omega arith) (λ _.
-        if-case (λ (n : ℕ). n ≤ 7) (m.fenced && any_read s.packets) (λ _. omega arith) (λ _.
-        if-case (λ (n : ℕ). n ≤ 7) (ltb half (distance (U s) (N s) + psns_for st m)) (λ _. omega arith) (λ _.
+        if-case (λ (o : Option Refusal). given-number o ≤ 7) (leb card.pairs p) (λ _. omega arith) (λ hp.
+        if-case (λ (o : Option Refusal). given-number o ≤ 7) (wrong_state (posting m) s.standing.state) (λ _. omega arith) (λ ready.
+        if-case (λ (o : Option Refusal). given-number o ≤ 7) (bad_post m) (λ _. omega arith) (λ _.
+        if-case (λ (o : Option Refusal). given-number o ≤ 7) (over_ceiling st m) (λ _. omega arith) (λ _.
+        if-case (λ (o : Option Refusal). given-number o ≤ 7) (m.fenced && any_read s.packets) (λ _. omega arith) (λ _.
+        if-case (λ (o : Option Refusal). given-number o ≤ 7) (ltb half (distance (U s) (N s) + psns_for st m)) (λ _. omega arith) (λ _.
         rw (within (leb-false card.pairs p hp) (rw (side-at t p) at (is-ready {x = s.standing.state} ready)) l) (omega arith)))))))
 
     -- whatever else is wrong with the post, it is not refused for room
     pub none-but-seven : length (queue t p) + slots_for (side t p).standing.settings m ≤ (side t p).standing.settings.share
-        → (n : ℕ) → (call card (on p (posting m)) t).said.reply ≡ Refused n → n ≤ 7
+        → (n : Refusal) → (call card (on p (posting m)) t).said.reply ≡ Err n → number n ≤ 7
     unfolding call
     none-but-seven l n =
         rw (complete card t a)
-        (by-test (eqb (first_given (refusals card (posting m) p (sides t))) 0)
-        (λ e. rw e (λ q. let z : ◌≡◌ {A = ℕ} 0 1 = cc in absurd (omega arith)))
-        (λ e. rw e (λ q. omega (arith, number l, refused-inj q))))
+        (by-given (first_given (refusals card (posting m) p (sides t)))
+        (λ e. rw e (λ q. ok-not-err q))
+        (λ k e. rw e (λ q. rw (e, refused-inj q) at (low l))))
 
     -- and if nothing else is, it is accepted
-    given-none : WithinShare card t p m → first_given (refusals card (posting m) p (sides t)) ≡ 0
+    given-none : WithinShare card t p m → first_given (refusals card (posting m) p (sides t)) ≡ None
     given-none w =
         let st = (side t p).standing.settings in
         let held = length (side t p).packets in
@@ -82,6 +87,6 @@ module _ (card : Card) where
         let room : no_room card p m (sides t) ≡ false = within w.pair w.is-ready w.share in
         rw (lt-leb card.pairs p w.pair, room, is, eq-eqb (side t p).standing.state 1 w.is-ready, w.in-range, small, w.unfenced, close)
 
-    pub room : WithinShare card t p m → (call card (on p (posting m)) t).said.reply ≡ First (N (side t p))
+    pub room : WithinShare card t p m → (call card (on p (posting m)) t).said.reply ≡ Ok (First (N (side t p)))
     unfolding call
-    room w = rw (complete card t a, given-none w) (ap (λ (s : Side). First (N s)) (side-at t p))
+    room w = rw (complete card t a, given-none w) (ap (λ (s : Side). Ok (First (N s))) (side-at t p))

@@ -1,8 +1,8 @@
 -- Slots move as 01 says: from the pair's front to the free queue's end, from the free queue's front to the pair's end; no other pair's queue and no other packet changes.
 use mathlib.Core.Path.{◌≡◌, ap, subst}
 use Prim.Native.Nat.{ℕ, ◌+◌, ◌<◌, ◌≤◌}
-use borrow.Author.Tests.{eq-eqb}
 use lib.ListN.{length}
+use Rattle.std.specs.Prelude.{None}
 use Rattle.refusal.specs.Refusals.{first_given}
 use Rattle.rules.specs.declared.Standing.{Standing}
 use Rattle.rules.specs.Card.{Card}
@@ -51,10 +51,10 @@ module _ (card : Card) (t : Tables) (a : Audit card t) (p : ℕ) where
   fits (ticking e b) h = tt
   fits (closing b) h = tt
 
-  pub tidy : (q : Request) → first_given (refusals card q p (sides t)) ≡ 0 → Tidy card p (effect q (side t p)).move t (call card (on p q) t).next
+  pub tidy : (q : Request) → first_given (refusals card q p (sides t)) ≡ None → Tidy card p (effect q (side t p)).move t (call card (on p q) t).next
   unfolding call
   tidy q e =
-      let h = accepted card q p (sides t) (eq-eqb (first_given (refusals card q p (sides t))) 0 e) in
+      let h = accepted card q p (sides t) e in
       let b = books card t a.whole p h.pair (effect q (side_at (sides t) p)).standing (effect q (side_at (sides t) p)).move (fits q h) in
       rw (complete card t a, e)
       (subst (λ (m : Move). Tidy card p m t (tables_after card.none p (effect q (side_at (sides t) p)).standing (effect q (side_at (sides t) p)).move t))

@@ -5,7 +5,7 @@ use mathlib.Core.List.{List, [], ◌∷◌, map}
 use Prim.Native.Nat.{ℕ, ◌+◌, ◌≤◌, ◌<◌}
 use native.Mathlib.Omega.{arith}
 use lib.Dec.{eqb, ltb, leb}
-use borrow.Author.Tests.{ltb-true, ltb-false, eqb-true, eqb-false, eq-eqb, not-false}
+use borrow.Author.Tests.{ltb-true, ltb-false, eqb-true, eqb-false, not-false}
 use lib.ListN.{take, drop, take-append-drop}
 use Rattle.refusal.specs.Choice.{Each}
 use Rattle.refusal.proofs.Cases.{by-test, if-case}
@@ -31,7 +31,9 @@ use Rattle.rules.specs.Refusals.{side_at, refusals}
 use Rattle.rules.specs.Requests.{acknowledging, on}
 use Rattle.rules.proofs.Sides.InOrder.{InOrder, audited-order}
 use Rattle.rules.proofs.Passes.Decided.{sound}
+use Rattle.std.specs.Prelude.{None, Ok}
 use Rattle.refusal.specs.Refusals.{first_given}
+use Rattle.refusal.proofs.Given.{by-given, ok-not-err}
 use Rattle.psn.proofs.Laws.{distance-step}
 use Rattle.rules.proofs.Slots.Links.{times-append, times-parts, times-other}
 use Rattle.rules.proofs.Slots.Lists.{map-drop}
@@ -157,7 +159,7 @@ module _ (card : Card) (t : Tables) (w : Whole card t) (p : ℕ) (low : p < card
 
 -- one that meets none of 1 to 9, is not dropped and not stopped
 acked-clean : (card : Card) (t : Tables) → Audit card t → (p r y : ℕ) (b : List ℕ)
-    → first_given (refusals card (acknowledging r y b) p (sides t)) ≡ 0 → Clean r y (side t p)
+    → first_given (refusals card (acknowledging r y b) p (sides t)) ≡ None → Clean r y (side t p)
     → Acked p r b t (call card (on p (acknowledging r y b)) t)
 unfolding none-up-to
 acked-clean card t a p r y b given c =
@@ -178,7 +180,7 @@ acked-clean card t a p r y b given c =
     is = cleared-is r y (side t p) c.top c.within c.clear
 
     h : Accepted card (acknowledging r y b) p (sides t)
-    h = accepted card (acknowledging r y b) p (sides t) (eq-eqb _ 0 given)
+    h = accepted card (acknowledging r y b) p (sides t) given
 
     order : InOrder (side t p)
     order = audited-order a p h.pair (rw (side-at t p) at (is-ready {x = (side_at (sides t) p).standing.state} h.state))
@@ -198,27 +200,27 @@ acked card t p r y b f low reads =
 -- what was answered "done": audited tables, none of 1 to 9 met, an ACK that was not dropped and not stopped
 record Was (card : Card) (t : Tables) (p r y : ℕ) (b : List ℕ) : Type 0 where
   audit : Audit card t
-  given : first_given (refusals card (acknowledging r y b) p (sides t)) ≡ 0
+  given : first_given (refusals card (acknowledging r y b) p (sides t)) ≡ None
   clean : Clean r y (side t p)
 
 was : (card : Card) (t : Tables) (p r y : ℕ) (b : List ℕ) (messages place : ℕ)
-    → (call card (on p (acknowledging r y b)) t).said.reply ≡ Answered Done messages place → Was card t p r y b
+    → (call card (on p (acknowledging r y b)) t).said.reply ≡ Ok (Answered Done messages place) → Was card t p r y b
 unfolding call
 was card t p r y b messages place =
     by-test (passes card t)
-    (λ e. rw e (by-test (eqb (first_given (refusals card (acknowledging r y b) p (sides t))) 0)
+    (λ e. rw e (by-given (first_given (refusals card (acknowledging r y b) p (sides t)))
     (λ q. rw q (λ d.
     record {
       audit = sound card t e;
-      given = eqb-true (first_given (refusals card (acknowledging r y b) p (sides t))) 0 q;
+      given = q;
       clean = rw (side-at t p) at (clean r y (side_at (sides t) p) (cc));
     }))
-    (λ q. rw q (λ d. let z : ◌≡◌ {A = ℕ} 0 1 = cc in absurd (omega arith)))))
-    (λ e. rw e (λ d. let z : ◌≡◌ {A = ℕ} 0 1 = cc in absurd (omega arith)))
+    (λ k q. rw q (λ d. ok-not-err (sym d)))))
+    (λ e. rw e (λ d. ok-not-err (sym d)))
 
 -- and the other way: whatever is answered "done" was such an ACK, of audited tables
 pub acked-when-done : (card : Card) (t : Tables) (p r y : ℕ) (b : List ℕ) (messages place : ℕ)
-    → (call card (on p (acknowledging r y b)) t).said.reply ≡ Answered Done messages place → Acked p r b t (call card (on p (acknowledging r y b)) t)
+    → (call card (on p (acknowledging r y b)) t).said.reply ≡ Ok (Answered Done messages place) → Acked p r b t (call card (on p (acknowledging r y b)) t)
 acked-when-done card t p r y b messages place d =
     let w = was card t p r y b messages place d in
     acked-clean card t w.audit p r y b w.given w.clean

@@ -9,6 +9,7 @@ use lib.Dec.{ltb}
 use borrow.Author.Tests.{ltb-true, ltb-false, lt-ltb, le-ltb, lt-leb, eq-eqb, not-false}
 use lib.ListN.{length, take, drop}
 use Rattle.refusal.specs.Choice.{Each}
+use Rattle.std.specs.Prelude.{None, Ok}
 use Rattle.refusal.specs.Refusals.{first_given}
 use Rattle.refusal.proofs.Cases.{by-test, if-case}
 use Rattle.refusal.proofs.Each.{each-so}
@@ -109,7 +110,7 @@ module _ (b : ℕ) (s : Side) (e : (release b s).stopped ≡ false) where
 
 module _ (card : Card) (t : Tables) (p r y : ℕ) (b : List ℕ) where
   -- none of 1 to 9 is met
-  pub given-none : Proper card t p r b → bad_syndrome y ≡ false → first_given (refusals card (acknowledging r y b) p (sides t)) ≡ 0
+  pub given-none : Proper card t p r b → bad_syndrome y ≡ false → first_given (refusals card (acknowledging r y b) p (sides t)) ≡ None
   given-none f low =
       let is : side_at (sides t) p ≡ side t p = side-at t p in
       rw (lt-leb card.pairs p f.pair, is, eq-eqb (side t p).standing.state 1 f.is-ready, lt-leb psns r f.psn, low, le-ltb _ _ f.buffer)
@@ -118,13 +119,13 @@ module _ (card : Card) (t : Tables) (p r y : ℕ) (b : List ℕ) where
   within f = lt-ltb _ _ f.open-range
 
   -- where it comes to this outcome, which flushes nothing
-  module _ (a : Audit card t) (given : first_given (refusals card (acknowledging r y b) p (sides t)) ≡ 0) (answer : Answer) (k : ℕ) (st : Standing)
+  module _ (a : Audit card t) (given : first_given (refusals card (acknowledging r y b) p (sides t)) ≡ None) (answer : Answer) (k : ℕ) (st : Standing)
       (is : acknowledge r y (side t p) ≡ record { answer = answer; released = k; flushed = 0; standing = st }) where
-    pub replied : (call card (on p (acknowledging r y b)) t).said.reply ≡ Answered answer (messages_of (left_with 0 (take k (side t p).packets))) 0
+    pub replied : (call card (on p (acknowledging r y b)) t).said.reply ≡ Ok (Answered answer (messages_of (left_with 0 (take k (side t p).packets))) 0)
     unfolding call
     replied =
         rw (complete card t a, given, side-at t p, is)
-        (ap (λ (ds : List Departure). Answered answer (messages_of ds) 0) (append-nil (left_with 0 (take k (side t p).packets))))
+        (ap (λ (ds : List Departure). Ok (Answered answer (messages_of ds) 0)) (append-nil (left_with 0 (take k (side t p).packets))))
 
     pub told : (call card (on p (acknowledging r y b)) t).said.buffer ≡ overlaid (completions (left_with 0 (take k (side t p).packets))) b
     unfolding call

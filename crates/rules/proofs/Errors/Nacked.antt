@@ -8,6 +8,7 @@ use native.Mathlib.Omega.{arith}
 use lib.Dec.{eqb, ltb}
 use borrow.Author.Tests.{le-leb, ne_eqb}
 use lib.ListN.{length, take, drop, take-append-drop}
+use Rattle.std.specs.Prelude.{None}
 use Rattle.refusal.specs.Refusals.{first_given}
 use Rattle.refusal.proofs.Cases.{if-case, and_none}
 use Rattle.rules.specs.declared.Clock.{Clock}
@@ -81,7 +82,7 @@ module _ (card : Card) (t : Tables) (p r y : ℕ) (b : List ℕ) (f : Proper car
   abbrev standing : Standing
   standing = back_to_u retries rnrs hold (release r (side t p)).standing
 
-  given : first_given (refusals card (acknowledging r y b) p (sides t)) ≡ 0
+  given : first_given (refusals card (acknowledging r y b) p (sides t)) ≡ None
   given = given-none card t p r y b f known
 
   order : InOrder (side t p)

@@ -37,7 +37,9 @@ use Rattle.rules.proofs.Slots.Lists.{map-take}
 use Rattle.rules.proofs.Sides.After.{leaving}
 use Rattle.rules.proofs.Sides.InOrder.{RunsLow, InOrder, audited-order}
 use Rattle.rules.proofs.Passes.Decided.{sound}
+use Rattle.std.specs.Prelude.{Ok}
 use Rattle.refusal.specs.Refusals.{first_given}
+use Rattle.refusal.proofs.Given.{by-given, ok-not-err}
 use Rattle.rules.proofs.Slots.Links.{times-parts}
 use Rattle.rules.proofs.Slots.Freed.{freed-queue, freed-side}
 use Rattle.rules.proofs.Slots.Queues.{pair-and-free}
@@ -199,12 +201,12 @@ module _ (card : Card) (t : Tables) (w : Whole card t) (p : ℕ) (low : p < card
 module _ (card : Card)
     (t : Tables) (p r y : ℕ) (b : List ℕ) (answer : Answer) (messages place : ℕ) where
   -- a slot that holds a read stays in its pair's queue, and the read's first unanswered PSN is what it was
-  stay-when : (call card (on p (acknowledging r y b)) t).said.reply ≡ Answered answer messages place → answer ≢ Ended
+  stay-when : (call card (on p (acknowledging r y b)) t).said.reply ≡ Ok (Answered answer messages place) → answer ≢ Ended
       → ReadsStay p t (call card (on p (acknowledging r y b)) t).next
   unfolding call
   stay-when =
       by-test (passes card t)
-      (λ e. rw e (by-test (eqb (first_given (refusals card (acknowledging r y b) p (sides t))) 0)
+      (λ e. rw e (by-given (first_given (refusals card (acknowledging r y b) p (sides t)))
       (λ q. rw q (λ d n.
       let h = accepted card (acknowledging r y b) p (sides t) q in
       let a = sound card t e in
@@ -215,8 +217,8 @@ module _ (card : Card)
       (sym (side-at t p))
       (λ z. stay-freed card t a.whole p h.pair (acknowledge r y (side t p)) (gentle r y (side t p) order psn z))
       (λ z. n (cc))))
-      (λ q. rw q (λ d. let z : ◌≡◌ {A = ℕ} 0 1 = cc in absurd (omega arith)))))
-      (λ e. rw e (λ d. let z : ◌≡◌ {A = ℕ} 0 1 = cc in absurd (omega arith)))
+      (λ k q. rw q (λ d. ok-not-err (sym d)))))
+      (λ e. rw e (λ d. ok-not-err (sym d)))
 
 pub reads-stay : (card : Card) → AckKeepsReads card
 reads-stay = stay-when

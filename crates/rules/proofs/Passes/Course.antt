@@ -1,5 +1,5 @@
 -- The walk over the PSNs passes exactly if the audit's order bullet holds.
-use Rattle.std.specs.Prelude.{if◌then◌else◌}
+use Rattle.std.specs.Prelude.{Option, None, Some, if◌then◌else◌}
 use mathlib.Core.Path.{◌≡◌, refl, sym, ap, ◌∙◌}
 use mathlib.Core.Logic.{◌↔◌}
 use mathlib.Core.Bool.{Bool, true, false, ◌||◌, false≢true}
@@ -16,14 +16,16 @@ use Rattle.rules.specs.declared.carried.Course.{Course}
 use Rattle.psn.specs.Psn.{psns, half, distance}
 use Rattle.rules.specs.Message.{span}
 use Rattle.rules.specs.Order.{◌or◌, left, right, Past, Start}
-use Rattle.rules.specs.Passes.Course.{course_from, astray, onward, first_fits, next_fits, course_step, stands, line_fits, course_ends}
+use Rattle.rules.specs.Passes.Course.{course_from, onward, first_fits, next_fits, course_step, stands, line_fits, course_ends}
 use Rattle.rules.specs.Passes.Tests.{◌and◌}
 use Rattle.rules.proofs.Sides.InOrder.{RunsLow, StartsLow, InOrder}
+use Rattle.std.proofs.lemmas.Option.{same_Some}
 use Rattle.refusal.proofs.Cases.{by-test}
+use Rattle.refusal.proofs.Given.{some-not-none}
 use Rattle.rules.proofs.Passes.Tests.{both, joined}
 
 -- the walk over a list of records
-abbrev pub coursed : Settings → Line → Course → List Packet → Course
+abbrev pub coursed : Settings → Line → Option Course → List Packet → Option Course
 coursed s l w [] = w
 coursed s l w (p ∷ ps) = coursed s l (course_step s l w p) ps
 
@@ -43,13 +45,14 @@ abbrev pub Seen : Bool → ℕ → List Packet → Type 0
 Seen b a ps = (b ≡ true) or Start a ps
 
 module _ (s : Settings) (l : Line) where
-  astray-stays : (ps : List Packet) → (coursed s l astray ps).ok ≡ false
-  astray-stays [] = refl
-  astray-stays (p ∷ ps) = astray-stays ps
+  none-stays : (ps : List Packet) → coursed s l None ps ≡ None
+  none-stays [] = refl
+  none-stays (p ∷ ps) = none-stays ps
 
-  kept : (t : Bool) (w : Course) (ps : List Packet) → (coursed s l (if t then w else astray) ps).ok ≡ true → t ≡ true
-  kept true w ps e = refl
-  kept false w ps e = absurd (false≢true (sym (astray-stays ps) ∙ e))
+  kept : (t : Bool) (w c : Course) (ps : List Packet) → coursed s l (if t then Some w else None) ps ≡ Some c
+      → (t ≡ true) × (coursed s l (Some w) ps ≡ Some c)
+  kept true w c ps e = (refl, e)
+  kept false w c ps e = some-not-none (sym e ∙ none-stays ps)
 
   seen_step : (b : Bool) (a : ℕ) (p : Packet) (ps : List Packet) → Seen (b || eqb a p.psn) a ps → Seen b a (p ∷ ps)
   seen_step b a p ps (right q) = right (right q)
@@ -66,122 +69,127 @@ module _ (s : Settings) (l : Line) where
 
   -- ---- after the first record
 
-  next-step : (w : Course) → w.ok ≡ true → 1 ≤ w.place → (p : Packet)
-      → course_step s l w p ≡ (if next_fits l w p then onward l (w.place + span s p) w p else astray)
-  next-step w ok h p = rw (ok, ne_eqb w.place 0 (λ e. omega arith))
+  next-step : (w : Course) → 1 ≤ w.place → (p : Packet)
+      → course_step s l (Some w) p ≡ (if next_fits l w p then Some (onward l (w.place + span s p) w p) else None)
+  next-step w h p = rw (ne_eqb w.place 0 (λ e. omega arith))
 
-  pub record Went (w : Course) (ps : List Packet) : Type 0 where
+  pub record Went (w c : Course) (ps : List Packet) : Type 0 where
     pub runs : RunsLow (span s) l.u w.place ps l.n
-    pub x : (coursed s l w ps).x ≡ true → Seen w.x l.x ps
-    pub h : (coursed s l w ps).h ≡ true → Seen w.h l.h ps
+    pub x : c.x ≡ true → Seen w.x l.x ps
+    pub h : c.h ≡ true → Seen w.h l.h ps
 
-  went : (w : Course) (ps : List Packet) → w.ok ≡ true → 1 ≤ w.place → (coursed s l w ps).ok ≡ true
-      → (coursed s l w ps).place ≡ distance l.u l.n → Went w ps
-  went w [] ok h e d = record { runs = d; x = λ q. left q; h = λ q. left q }
-  went w (p ∷ ps) ok h e d = go (kept (next_fits l w p) (onward l (w.place + span s p) w p) ps (sym (ap (λ (c : Course). (coursed s l c ps).ok) (next-step w ok h p)) ∙ e)) (went (onward l (w.place + span s p) w p) ps refl (omega arith))
-    where
-      step : next_fits l w p ≡ true → course_step s l w p ≡ onward l (w.place + span s p) w p
-      step t = next-step w ok h p ∙ rw t
-
-      go : next_fits l w p ≡ true
-          → ((coursed s l (onward l (w.place + span s p) w p) ps).ok ≡ true → (coursed s l (onward l (w.place + span s p) w p) ps).place ≡ distance l.u l.n
-          → Went (onward l (w.place + span s p) w p) ps)
-          → Went w (p ∷ ps)
-      go t f =
-          let q : coursed s l w (p ∷ ps) ≡ coursed s l (onward l (w.place + span s p) w p) ps = ap (λ (c : Course). coursed s l c ps) (step t) in
-          let r = f (ap (λ (c : Course). c.ok) (sym q) ∙ e) (ap (λ (c : Course). c.place) (sym q) ∙ d) in
-          record {
-            runs = (ltb-true p.psn psns (both t).0, eqb-true (distance l.u p.psn) w.place (both t).1, r.runs);
-            x = λ g. seen_step w.x l.x p ps (r.x (ap (λ (c : Course). c.x) (sym q) ∙ g));
-            h = λ g. seen_step w.h l.h p ps (r.h (ap (λ (c : Course). c.h) (sym q) ∙ g));
-          }
+  went : (w c : Course) (ps : List Packet) → 1 ≤ w.place → coursed s l (Some w) ps ≡ Some c → c.place ≡ distance l.u l.n → Went w c ps
+  went w c [] h e d =
+      let q = same_Some w c e in
+      record {
+        runs = ap (λ (v : Course). v.place) q ∙ d;
+        x = λ g. left (ap (λ (v : Course). v.x) q ∙ g);
+        h = λ g. left (ap (λ (v : Course). v.h) q ∙ g);
+      }
+  went w c (p ∷ ps) h e d =
+      let on = onward l (w.place + span s p) w p in
+      let k = kept (next_fits l w p) on c ps (ap (λ (o : Option Course). coursed s l o ps) (sym (next-step w h p)) ∙ e) in
+      let r = went on c ps (omega arith) k.1 d in
+      record {
+        runs = (ltb-true p.psn psns (both k.0).0, eqb-true (distance l.u p.psn) w.place (both k.0).1, r.runs);
+        x = λ g. seen_step w.x l.x p ps (r.x g);
+        h = λ g. seen_step w.h l.h p ps (r.h g);
+      }
 
   pub record Arrived (w : Course) (ps : List Packet) : Type 0 where
-    pub ok : (coursed s l w ps).ok ≡ true
-    pub place : (coursed s l w ps).place ≡ distance l.u l.n
-    pub x : Seen w.x l.x ps → (coursed s l w ps).x ≡ true
-    pub h : Seen w.h l.h ps → (coursed s l w ps).h ≡ true
+    pub end : Course
+    pub is : coursed s l (Some w) ps ≡ Some end
+    pub place : end.place ≡ distance l.u l.n
+    pub x : Seen w.x l.x ps → end.x ≡ true
+    pub h : Seen w.h l.h ps → end.h ≡ true
 
-  arrived : (w : Course) (ps : List Packet) → w.ok ≡ true → 1 ≤ w.place → RunsLow (span s) l.u w.place ps l.n → Arrived w ps
-  arrived w [] ok h r = record { ok = ok; place = r; x = here w.x; h = here w.h }
+  arrived : (w : Course) (ps : List Packet) → 1 ≤ w.place → RunsLow (span s) l.u w.place ps l.n → Arrived w ps
+  arrived w [] h r = record { end = w; is = refl; place = r; x = here w.x; h = here w.h }
     where
       here : (b : Bool) → (b ≡ true) or ⊥ → b ≡ true
       here b (left e) = e
       here b (right n) = elim n [ ]
-  arrived w (p ∷ ps) ok h r = go (arrived (onward l (w.place + span s p) w p) ps refl (omega arith) r.2)
+  arrived w (p ∷ ps) h r =
+      let a = arrived (onward l (w.place + span s p) w p) ps (omega arith) r.2 in
+      record {
+        end = a.end;
+        is = ap (λ (o : Option Course). coursed s l o ps) step ∙ a.is;
+        place = a.place;
+        x = λ g. a.x (seen_back w.x l.x p ps g);
+        h = λ g. a.h (seen_back w.h l.h p ps g);
+      }
     where
-      step : course_step s l w p ≡ onward l (w.place + span s p) w p
-      step = next-step w ok h p ∙ rw (joined (lt-ltb p.psn psns r.0) (eq-eqb (distance l.u p.psn) w.place r.1))
-
-      go : Arrived (onward l (w.place + span s p) w p) ps → Arrived w (p ∷ ps)
-      go a =
-          let q : coursed s l w (p ∷ ps) ≡ coursed s l (onward l (w.place + span s p) w p) ps = ap (λ (c : Course). coursed s l c ps) step in
-          record {
-            ok = ap (λ (c : Course). c.ok) q ∙ a.ok;
-            place = ap (λ (c : Course). c.place) q ∙ a.place;
-            x = λ g. ap (λ (c : Course). c.x) q ∙ a.x (seen_back w.x l.x p ps g);
-            h = λ g. ap (λ (c : Course). c.h) q ∙ a.h (seen_back w.h l.h p ps g);
-          }
+      step : course_step s l (Some w) p ≡ Some (onward l (w.place + span s p) w p)
+      step = next-step w h p ∙ rw (joined (lt-ltb p.psn psns r.0) (eq-eqb (distance l.u p.psn) w.place r.1))
 
   -- ---- from the first record on
 
-  first_step : (p : Packet) → course_step s l course_from p ≡ (if first_fits s l p then onward l (span s p - distance p.psn l.u) course_from p else astray)
-  first_step p = refl
+  -- after the first record
+  abbrev first : Packet → Course
+  first p = record { place = span s p - distance p.psn l.u; x = eqb l.x p.psn; h = eqb l.h p.psn }
 
-  pub record Good (ps : List Packet) : Type 0 where
+  pub record Good (c : Course) (ps : List Packet) : Type 0 where
     pub starts : StartsLow (span s) l.u ps l.n
     pub past : Past (span s) l.u l.h ps
-    pub x : (coursed s l course_from ps).x ≡ true → Start l.x ps
-    pub h : (coursed s l course_from ps).h ≡ true → Start l.h ps
+    pub x : c.x ≡ true → Start l.x ps
+    pub h : c.h ≡ true → Start l.h ps
 
   only : (a : ℕ) (ps : List Packet) → Seen false a ps → Start a ps
   only a ps (left e) = absurd (false≢true e)
   only a ps (right q) = q
 
-  good : (ps : List Packet) → (coursed s l course_from ps).ok ≡ true → (coursed s l course_from ps).place ≡ distance l.u l.n → Good ps
-  good [] e d = record { starts = d; past = tt; x = λ q. absurd (false≢true q); h = λ q. absurd (false≢true q) }
-  good (p ∷ ps) e d =
-      let t = kept (first_fits s l p) first ps e in
-      let q : coursed s l course_from (p ∷ ps) ≡ coursed s l first ps = ap (λ (c : Course). coursed s l c ps) (rw t) in
-      let b = both (both t).1 in
-      let lt = ltb-true (distance p.psn l.u) (span s p) b.0 in
-      let r = went first ps refl (omega (arith, lt)) (ap (λ (c : Course). c.ok) (sym q) ∙ e) (ap (λ (c : Course). c.place) (sym q) ∙ d) in
+  good : (c : Course) (ps : List Packet) → coursed s l course_from ps ≡ Some c → c.place ≡ distance l.u l.n → Good c ps
+  good c [] e d =
+      let q = same_Some _ c e in
       record {
-        starts = (ltb-true p.psn psns (both t).0, lt, r.runs);
+        starts = ap (λ (v : Course). v.place) q ∙ d;
+        past = tt;
+        x = λ g. absurd (false≢true (ap (λ (v : Course). v.x) q ∙ g));
+        h = λ g. absurd (false≢true (ap (λ (v : Course). v.h) q ∙ g));
+      }
+  good c (p ∷ ps) e d =
+      let k = kept (first_fits s l p) (first p) c ps e in
+      let b = both (both k.0).1 in
+      let lt = ltb-true (distance p.psn l.u) (span s p) b.0 in
+      let r = went (first p) c ps (omega (arith, lt)) k.1 d in
+      record {
+        starts = (ltb-true p.psn psns (both k.0).0, lt, r.runs);
         past = λ k. past k (either (eqb (distance p.psn l.u) 0) (leb (span s p - distance p.psn l.u) (distance l.u l.h)) b.1);
-        x = λ g. only l.x (p ∷ ps) (seen_step false l.x p ps (r.x (ap (λ (c : Course). c.x) (sym q) ∙ g)));
-        h = λ g. only l.h (p ∷ ps) (seen_step false l.h p ps (r.h (ap (λ (c : Course). c.h) (sym q) ∙ g)));
+        x = λ g. only l.x (p ∷ ps) (seen_step false l.x p ps (r.x g));
+        h = λ g. only l.h (p ∷ ps) (seen_step false l.h p ps (r.h g));
       }
     where
-      first : Course
-      first = onward l (span s p - distance p.psn l.u) course_from p
-
       past : 0 < distance p.psn l.u → (eqb (distance p.psn l.u) 0 ≡ true) or (leb (span s p - distance p.psn l.u) (distance l.u l.h) ≡ true)
           → span s p - distance p.psn l.u ≤ distance l.u l.h
       past k (left e) = absurd (omega (arith, k, eqb-true (distance p.psn l.u) 0 e))
       past k (right e) = leb-true (span s p - distance p.psn l.u) (distance l.u l.h) e
 
   pub record Done (ps : List Packet) : Type 0 where
-    pub ok : (coursed s l course_from ps).ok ≡ true
-    pub place : (coursed s l course_from ps).place ≡ distance l.u l.n
-    pub x : Start l.x ps → (coursed s l course_from ps).x ≡ true
-    pub h : Start l.h ps → (coursed s l course_from ps).h ≡ true
+    pub end : Course
+    pub is : coursed s l course_from ps ≡ Some end
+    pub place : end.place ≡ distance l.u l.n
+    pub x : Start l.x ps → end.x ≡ true
+    pub h : Start l.h ps → end.h ≡ true
 
   done : (ps : List Packet) → StartsLow (span s) l.u ps l.n → Past (span s) l.u l.h ps → Done ps
-  done [] r k = record { ok = refl; place = r; x = λ q. absurd q; h = λ q. absurd q }
-  done (p ∷ ps) r k =
-      let q : coursed s l course_from (p ∷ ps) ≡ coursed s l first ps = ap (λ (c : Course). coursed s l c ps) (rw fits) in
-      let a = arrived first ps refl (omega (arith, r.1)) r.2 in
+  done [] r k =
       record {
-        ok = ap (λ (c : Course). c.ok) q ∙ a.ok;
-        place = ap (λ (c : Course). c.place) q ∙ a.place;
-        x = λ g. ap (λ (c : Course). c.x) q ∙ a.x (seen_back false l.x p ps (right g));
-        h = λ g. ap (λ (c : Course). c.h) q ∙ a.h (seen_back false l.h p ps (right g));
+        end = record { place = 0; x = false; h = false };
+        is = refl;
+        place = r;
+        x = λ q. absurd q;
+        h = λ q. absurd q;
+      }
+  done (p ∷ ps) r k =
+      let a = arrived (first p) ps (omega (arith, r.1)) r.2 in
+      record {
+        end = a.end;
+        is = ap (λ (b : Bool). coursed s l (if b then Some (first p) else None) ps) fits ∙ a.is;
+        place = a.place;
+        x = λ g. a.x (seen_back false l.x p ps (right g));
+        h = λ g. a.h (seen_back false l.h p ps (right g));
       }
     where
-      first : Course
-      first = onward l (span s p - distance p.psn l.u) course_from p
-
       past : (eqb (distance p.psn l.u) 0 || leb (span s p - distance p.psn l.u) (distance l.u l.h)) ≡ true
       past =
           by-test (eqb (distance p.psn l.u) 0)
@@ -216,34 +224,37 @@ module _ (t : Standing) (ps : List Packet) where
       l : Line
       l = t.line
 
-      c : Course
+      c : Option Course
       c = coursed t.settings l course_from ps
 
       to : (line_fits l and course_ends l c) ≡ true → InOrder (record { standing = t; packets = ps })
-      to e =
-          let l1 = both (both e).0 in
-          let l2 = both l1.1 in
-          let l3 = both l2.1 in
-          let l4 = both l3.1 in
-          let l5 = both l4.1 in
-          let l6 = both l5.1 in
-          let c1 = both (both e).1 in
-          let c2 = both c1.1 in
-          let c3 = both c2.1 in
-          let g = good t.settings l ps c1.0 (eqb-true c.place (distance l.u l.n) c2.0) in
-          record {
-            u-low = ltb-true l.u psns l1.0;
-            x-low = ltb-true l.x psns l2.0;
-            h-low = ltb-true l.h psns l3.0;
-            n-low = ltb-true l.n psns l4.0;
-            starts = g.starts;
-            u-x-h = leb-true (distance l.u l.x) (distance l.u l.h) l5.0;
-            u-h-n = leb-true (distance l.u l.h) (distance l.u l.n) l6.0;
-            near = leb-true (distance l.u l.n) half l6.1;
-            x-stands = stands_of l l.x c.x ps g.x c3.0;
-            h-stands = stands_of l l.h c.h ps g.h c3.1;
-            h-past = g.past;
-          }
+      to e = on c refl (both e).1
+        where
+          on : (o : Option Course) → c ≡ o → course_ends l o ≡ true → InOrder (record { standing = t; packets = ps })
+          on None q k = absurd (false≢true k)
+          on (Some w) q k =
+              let l1 = both (both e).0 in
+              let l2 = both l1.1 in
+              let l3 = both l2.1 in
+              let l4 = both l3.1 in
+              let l5 = both l4.1 in
+              let l6 = both l5.1 in
+              let c1 = both k in
+              let c2 = both c1.1 in
+              let g = good t.settings l w ps q (eqb-true w.place (distance l.u l.n) c1.0) in
+              record {
+                u-low = ltb-true l.u psns l1.0;
+                x-low = ltb-true l.x psns l2.0;
+                h-low = ltb-true l.h psns l3.0;
+                n-low = ltb-true l.n psns l4.0;
+                starts = g.starts;
+                u-x-h = leb-true (distance l.u l.x) (distance l.u l.h) l5.0;
+                u-h-n = leb-true (distance l.u l.h) (distance l.u l.n) l6.0;
+                near = leb-true (distance l.u l.n) half l6.1;
+                x-stands = stands_of l l.x w.x ps g.x c2.0;
+                h-stands = stands_of l l.h w.h ps g.h c2.1;
+                h-past = g.past;
+              }
 
       back : InOrder (record { standing = t; packets = ps }) → (line_fits l and course_ends l c) ≡ true
       back o =
@@ -252,5 +263,5 @@ module _ (t : Standing) (ps : List Packet) where
           (joined (lt-ltb l.u psns o.u-low) (joined (lt-ltb l.x psns o.x-low) (joined (lt-ltb l.h psns o.h-low) (joined (lt-ltb l.n psns o.n-low)
           (joined (le-leb (distance l.u l.x) (distance l.u l.h) o.u-x-h)
           (joined (le-leb (distance l.u l.h) (distance l.u l.n) o.u-h-n) (le-leb (distance l.u l.n) half o.near)))))))
-          (joined d.ok (joined (eq-eqb c.place (distance l.u l.n) d.place)
-          (joined (stands-is l l.x c.x ps d.x o.x-stands) (stands-is l l.h c.h ps d.h o.h-stands))))
+          (ap (course_ends l) d.is ∙ joined (eq-eqb d.end.place (distance l.u l.n) d.place)
+          (joined (stands-is l l.x d.end.x ps d.x o.x-stands) (stands-is l l.h d.end.h ps d.h o.h-stands)))

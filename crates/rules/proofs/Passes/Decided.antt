@@ -1,6 +1,7 @@
 -- The test gives the audit's answer, for any number of pairs and slots.
+use Rattle.std.specs.Prelude.{Option, None, Some, is_some}
 use mathlib.Core.Path.{◌≡◌, refl, sym, ap, ◌∙◌, subst}
-use mathlib.Core.Bool.{true}
+use mathlib.Core.Bool.{true, false≢true}
 use mathlib.Core.Logic.{◌↔◌}
 use mathlib.Core.List.{List, [], ◌∷◌, ◌++◌, map}
 use Prim.Native.Nat.{ℕ, zero, suc, ◌+◌, ◌-◌, ◌<◌, suc-le-suc}
@@ -21,7 +22,7 @@ use Rattle.rules.specs.Slots.{Tables, pair_at, spelled, times, concat, queues, h
 use Rattle.rules.specs.Pool.{claimed, claims}
 use Rattle.rules.specs.Audit.{Audit}
 use Rattle.rules.specs.Passes.Links.{links_pass}
-use Rattle.rules.specs.Passes.Tables.{Entry, claim_by, entry_of, tally_from, tallied, leftover, free_entry, pairs_tally, whole_tally, passes}
+use Rattle.rules.specs.Passes.Tables.{none_of, Entry, claim_by, entry_of, tally_from, tally_step, tallied, leftover, pairs_tally, free_step, whole_tally, passes}
 use Rattle.rules.proofs.Sides.InOrder.{ordered, audited-order}
 use Rattle.rules.proofs.Slots.Links.{times-append}
 use Rattle.rules.proofs.Slots.Queues.{length-follow, all_slots}
@@ -33,8 +34,13 @@ use Rattle.rules.proofs.Passes.Tests.{both, joined}
 use Rattle.rules.proofs.Passes.Links.{spells-passes}
 use Rattle.rules.proofs.Passes.Pair.{Right, pair-passes}
 use Rattle.rules.proofs.Passes.Bits.{has-none, none-room}
-use Rattle.rules.proofs.Passes.Tally.{Passed, total, asked, New, Counted, counted, adds, tally-more, step_ok}
+use Rattle.rules.proofs.Passes.Tally.{Passed, total, asked, New, Counted, counted, adds, tally-more}
 use Rattle.rules.proofs.Passes.Lists.{lists, Runs, all-linked, all-below, join-below, join-length, lasts-of, last-low, differ_of, times_more}
+
+-- what there is of an Option that is not none
+pub there : {A : Type 0} (o : Option A) → is_some o ≡ true → (x : A) × (o ≡ Some x)
+there None e = absurd (false≢true e)
+there (Some x) e = (x, refl)
 
 -- ---- each pair by its number, and the last entry
 
@@ -108,20 +114,28 @@ module _ (card : Card) (t : Tables) where
       ∙ ap (λ (l : List (List ℕ)). times i (concat l) + times i (free t)) (lists-are card t.slots t.pairs)
       ∙ omega (arith, times-append i (free t) (concat (queues t)))
 
-  count-pairs : (pairs_tally card t).ok ≡ true → Counted card.slots (tally_from card.slots) of_pairs
-  count-pairs ok = counted card.slots (tally_from card.slots) of_pairs refl (none-room card.slots) ok
+  -- before the first queue
+  abbrev pub start : Tally
+  start = record { words = none_of card.slots; held = 0; claimed = 0 }
+
+  count-pairs : (w : Tally) → pairs_tally card t ≡ Some w → Counted card.slots start w of_pairs
+  count-pairs w e = counted card.slots start w of_pairs (none-room card.slots) e
 
   -- what the pairs leave is the free queue
-  left_is : length t.slots ≡ card.slots → (pairs_tally card t).ok ≡ true → leftover card.slots t (pairs_tally card t) ≡ free_record t
-  left_is ns ok = λ j. record { first = t.ends.first; last = t.ends.last; held = held j }
+  left_is : length t.slots ≡ card.slots → (w : Tally) → pairs_tally card t ≡ Some w → leftover card.slots t w ≡ free_record t
+  left_is ns w e = λ j. record { first = t.ends.first; last = t.ends.last; held = held j }
     where
-      held : card.slots - (pairs_tally card t).held ≡ length t.slots - held_by t.pairs
-      held = omega (arith, ns, (count-pairs ok).held, total-is card t.slots t.pairs)
+      held : card.slots - w.held ≡ length t.slots - held_by t.pairs
+      held = omega (arith, ns, (count-pairs w e).held, total-is card t.slots t.pairs)
 
-  pub whole_is : length t.slots ≡ card.slots → (pairs_tally card t).ok ≡ true → whole_tally card t ≡ tallied card.slots (tally_from card.slots) entries
-  whole_is ns ok =
-      sym (tally-more card.slots (tally_from card.slots) of_pairs (free_entry card t (pairs_tally card t)))
-      ∙ ap (λ (q : Queue). tallied card.slots (tally_from card.slots) (of_pairs ++ (record { passed = links_pass card.none t.slots q; queue = q; claim = 0 } ∷ []))) (left_is ns ok)
+  pub whole_is : length t.slots ≡ card.slots → whole_tally card t ≡ tallied card.slots (tally_from card.slots) entries
+  whole_is ns = go (pairs_tally card t) refl ∙ sym (tally-more card.slots (tally_from card.slots) of_pairs of_free)
+    where
+      go : (o : Option Tally) → pairs_tally card t ≡ o → free_step card t o ≡ tally_step card.slots (pairs_tally card t) of_free
+      go None e = ap (λ (x : Option Tally). tally_step card.slots x of_free) (sym e)
+      go (Some w) e =
+          ap (λ (q : Queue). tally_step card.slots (Some w) (record { passed = links_pass card.none t.slots q; queue = q; claim = 0 })) (left_is ns w e)
+          ∙ ap (λ (x : Option Tally). tally_step card.slots x of_free) (sym e)
 
   runs_of : Each Passed entries → Each (Runs card.none t.slots) entries
   runs_of h =
@@ -159,11 +173,11 @@ module _ (card : Card) (t : Tables) where
       ns : length t.slots ≡ card.slots
       ns = eqb-true (length t.slots) card.slots (both (both e).1).0
 
-      first : (pairs_tally card t).ok ≡ true
-      first = step_ok card.slots (pairs_tally card t) (free_entry card t (pairs_tally card t)) (both (both e).1).1
+      end : (w : Tally) × (tallied card.slots (tally_from card.slots) entries ≡ Some w)
+      end = there (tallied card.slots (tally_from card.slots) entries) (ap is_some (sym (whole_is ns)) ∙ (both (both e).1).1)
 
-      c : Counted card.slots (tally_from card.slots) entries
-      c = counted card.slots (tally_from card.slots) entries refl (none-room card.slots) (ap (λ (x : Tally). x.ok) (sym (whole_is ns first)) ∙ (both (both e).1).1)
+      c : Counted card.slots start end.0 entries
+      c = counted card.slots start end.0 entries (none-room card.slots) end.1
 
       runs : Each (Runs card.none t.slots) entries
       runs = runs_of c.passed
@@ -177,14 +191,7 @@ module _ (card : Card) (t : Tables) where
       held_of p = held-is t p
 
       sum : total entries ≡ card.slots
-      sum =
-          omega (
-            arith,
-            total-more of_pairs of_free,
-            total-is card t.slots t.pairs,
-            (count-pairs first).room (omega arith),
-            ns,
-          )
+      sum = omega (arith, total-more of_pairs of_free, total-is card t.slots t.pairs, c.room (omega arith), ns)
 
       once : (i : ℕ) → i < card.slots → times i (free t ++ concat (queues t)) ≡ 1
       once i l =
@@ -199,7 +206,7 @@ module _ (card : Card) (t : Tables) where
   unfolding passes side
   complete a =
       joined (eq-eqb (length t.pairs) card.pairs np)
-      (joined (eq-eqb (length t.slots) card.slots ns) (ap (λ (x : Tally). x.ok) (whole_is ns first) ∙ all))
+      (joined (eq-eqb (length t.slots) card.slots ns) (ap is_some (whole_is ns) ∙ all))
     where
       np : length t.pairs ≡ card.pairs
       np = a.whole.pair-records
@@ -239,18 +246,15 @@ module _ (card : Card) (t : Tables) where
           length-free : length (free t) ≡ (free_record t).held
           length-free = length-follow t.slots (free_record t).first (free_record t).held
 
-      new : Each (New card.slots (tally_from card.slots).words) entries
+      new : Each (New card.slots start.words) entries
       new =
-          each-so (Runs card.none t.slots) (New card.slots (tally_from card.slots).words)
+          each-so (Runs card.none t.slots) (New card.slots start.words)
           (λ e k h. (omega (arith, ns, last-low card.none t.slots e k h), has-none card.slots e.queue.last)) entries runs
 
-      all : (tallied card.slots (tally_from card.slots) entries).ok ≡ true
+      all : is_some (tallied card.slots (tally_from card.slots) entries) ≡ true
       all =
-          adds card.slots (tally_from card.slots) entries refl (none-room card.slots) passed new
+          adds card.slots start entries (none-room card.slots) passed new
           (differ_of card.none t.slots entries runs (λ i l. omega (arith, once i (omega (arith, ns, l))))) (omega (arith, sum)) (omega (arith, asked-all, a.shares))
-
-      first : (pairs_tally card t).ok ≡ true
-      first = step_ok card.slots (pairs_tally card t) of_free (ap (λ (x : Tally). x.ok) (sym (tally-more card.slots (tally_from card.slots) of_pairs of_free)) ∙ all)
 
   -- "The audit passes exactly if": the test that code computes and the record of 01's bullets say the same, on any tables
   pub decided : passes card t ≡ true ↔ Audit card t

@@ -1,4 +1,5 @@
 -- The loops over the tables: what a turn does to what is left to do.
+use Rattle.std.specs.Prelude.{Option}
 use mathlib.Core.Path.{◌≡◌, refl, sym, ap, ◌∙◌}
 use mathlib.Core.List.{List, [], ◌∷◌, map}
 use Prim.Native.Nat.{ℕ, zero, suc, ◌-◌, ◌<◌}
@@ -18,14 +19,14 @@ use Rattle.rules.specs.Passes.Tables.{Entry, tally_step, tallied}
 
 -- all pairs: pair p is taken in, and those after it are left
 module _ (slots : ℕ) (f : Pair → Entry) where
-  pub tally-turn : (t : Tally) (ps : List Pair) (p : ℕ) → p < length ps
+  pub tally-turn : (t : Option Tally) (ps : List Pair) (p : ℕ) → p < length ps
       → tallied slots t (map f (drop p ps)) ≡ tallied slots (tally_step slots t (f (pair_at ps p))) (map f (drop (suc p) ps))
   unfolding pair_at
   tally-turn t [] p h = absurd (not-suc-le-zero h)
   tally-turn t (x ∷ ps) zero h = refl
   tally-turn t (x ∷ ps) (suc p) h = tally-turn t ps p (le_of_suc-le-suc h)
 
-  pub tally-last : (t : Tally) (ps : List Pair) → tallied slots t (map f (drop (length ps) ps)) ≡ t
+  pub tally-last : (t : Option Tally) (ps : List Pair) → tallied slots t (map f (drop (length ps) ps)) ≡ t
   tally-last t [] = refl
   tally-last t (x ∷ ps) = tally-last t ps
 

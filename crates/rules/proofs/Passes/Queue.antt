@@ -1,4 +1,5 @@
 -- One pair's queue passes exactly if its links spell it and, where the pair is ready, bullets 3 and 4 of the audit hold of it.
+use Rattle.std.specs.Prelude.{Some}
 use mathlib.Core.Path.{◌≡◌, refl, sym, ap, ◌∙◌}
 use mathlib.Core.Logic.{◌↔◌}
 use mathlib.Core.Bool.{true}
@@ -68,7 +69,7 @@ module _ (none : ℕ) (s : List Slot) (t : Standing) (q : Queue) where
   unfolding w seen
   course-is = ap (course_ends t.line) (walk-course t s (walk_from none q) q.held)
 
-  stage_is : stage_ends w.stage ≡ stage_ends (run t.settings Start (packets_in s q))
+  stage_is : stage_ends w.stage ≡ stage_ends (run t.settings (Some Start) (packets_in s q))
   unfolding w seen
   stage_is = ap stage_ends (walk-stage t s (walk_from none q) q.held)
 

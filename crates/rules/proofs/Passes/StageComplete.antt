@@ -1,5 +1,5 @@
 -- What is held passes: the walk over the messages takes the records of any allowed post, and of the first any rear part.
-use Rattle.std.specs.Prelude.{if◌then◌else◌}
+use Rattle.std.specs.Prelude.{Option, Some, if◌then◌else◌}
 use mathlib.Core.Path.{◌≡◌, refl, sym, ap, ◌∙◌}
 use mathlib.Core.Bool.{Bool, true, false, false≢true}
 use mathlib.Core.List.{List, [], ◌∷◌, ◌++◌, map}
@@ -108,7 +108,7 @@ module _ (s : Settings) (m : Post) (kd : m.kind ≤ 1) (first : ℕ) where
     a-opcode : a.opcode ≡ 6 * m.kind
     a-opcode = ap (λ (q : Packet). q.opcode) a-is
 
-    a-fresh : new_message s a ≡ Inside (begun a)
+    a-fresh : new_message s a ≡ Some (Inside (begun a))
     a-fresh = rw (not-single s a (ne_eqb a.opcode 12 (λ e. omega (arith, a-opcode, e))) (omega (arith, a-opcode)), a-opens)
 
   -- ---- a message of one record
@@ -218,7 +218,7 @@ module _ (s : Settings) where
     pub tail : List Packet
     pub is : ps ≡ head ∷ tail
     pub front : is_rear head ≡ false
-    pub runs : run s (new_message s head) (tail ++ rest) ≡ run s Between rest
+    pub runs : run s (new_message s head) (tail ++ rest) ≡ run s (Some Between) rest
 
   taken-read : (m : Post) (first : ℕ) (rest : List Packet) → Allowed s m → m.kind ≡ 2 → Taken (packets_of s m first) rest
   unfolding packets_of single
@@ -228,7 +228,7 @@ module _ (s : Settings) where
         tail = [];
         is = rw (eq-eqb m.kind 2 k);
         front = not-rear q (λ a b c. omega (arith, c));
-        runs = ap (λ (x : Stage). run s x rest) e;
+        runs = ap (λ (x : Option Stage). run s x rest) e;
       }
     where
       q : Packet
@@ -249,7 +249,7 @@ module _ (s : Settings) where
       one : single s q ≡ true
       one = joined (allowed-is s (alone q) ok) (same_self q (made 12 (alone q) first m.offset m.length) refl)
 
-      e : new_message s q ≡ Between
+      e : new_message s q ≡ Some Between
       e = rw one
 
   taken-only : (m : Post) (first : ℕ) (rest : List Packet) → Allowed s m → (kd : m.kind ≤ 1) → packets_for (pmtu s) m.length ≡ 1 → Taken (packets_of s m first) rest
@@ -259,13 +259,13 @@ module _ (s : Settings) where
         tail = [];
         is = split-is s m first kd ∙ ap (λ (k : ℕ). map (packet_at s m first) (from 0 k)) lone ∙ (λ j. b-is s m kd first allowed lone j ∷ []);
         front = not-rear q (λ x y z. omega (arith, y, b-last s m kd first allowed lone));
-        runs = ap (λ (x : Stage). run s x rest) e;
+        runs = ap (λ (x : Option Stage). run s x rest) e;
       }
     where
       q : Packet
       q = b s m kd first allowed lone
 
-      e : new_message s q ≡ Between
+      e : new_message s q ≡ Some Between
       e = rw (b-single s m kd first allowed lone)
 
   taken_more : (m : Post) (first : ℕ) (rest : List Packet) → Allowed s m → (kd : m.kind ≤ 1) → (j : ℕ) → packets_for (pmtu s) m.length ≡ suc (suc j) → Taken (packets_of s m first) rest
@@ -277,7 +277,7 @@ module _ (s : Settings) where
         is = split-is s m first kd ∙ ap (λ (k : ℕ). map (packet_at s m first) (from 0 k)) size;
         front = not-rear q (λ x y z. omega (arith, x, a-opcode s m kd first many));
         runs =
-            ap (λ (x : Stage). run s x (map (packet_at s m first) (from 1 (suc j)) ++ rest)) (a-fresh s m kd first many)
+            ap (λ (x : Option Stage). run s x (map (packet_at s m first) (from 1 (suc j)) ++ rest)) (a-fresh s m kd first many)
             ∙ inner-complete s m kd first allowed rest j 1 (begun q) (a-stands s m kd first many) (omega (arith, size));
       }
     where
@@ -298,7 +298,7 @@ module _ (s : Settings) where
       go kd (suc zero) e h = taken-only m first rest allowed kd e
       go kd (suc (suc j)) e h = taken_more m first rest allowed kd j e
 
-  pub messages-pass : {ps : List Packet} → Messages s ps → stage_ends (run s Between ps) ≡ true
+  pub messages-pass : {ps : List Packet} → Messages s ps → stage_ends (run s (Some Between) ps) ≡ true
   messages-pass no_more = refl
   messages-pass (message m first rest allowed e r) =
       let t = taken m first rest allowed in
@@ -353,26 +353,26 @@ module _ (s : Settings) (m : Post) (kd : m.kind ≤ 1) (first i : ℕ) (one : 1 
         total = λ e _. absurd (false≢true e);
       }
 
-  y-step : stage_step s Start y ≡ inner s (behind s y) y
+  y-step : stage_step s (Some Start) y ≡ inner s (behind s y) y
   y-step = rw (y-rear, le-leb (pmtu s) y.offset y-offset)
 
 module _ (s : Settings) where
   rear-pass : (m : Post) (kd : m.kind ≤ 1) (first i j : ℕ) (rest : List Packet) → Allowed s m → 1 ≤ i → packets_for (pmtu s) m.length ≡ i + suc j
-      → Messages s rest → stage_ends (run s Start (drop i (packets_of s m first) ++ rest)) ≡ true
+      → Messages s rest → stage_ends (run s (Some Start) (drop i (packets_of s m first) ++ rest)) ≡ true
   unfolding y
   rear-pass m kd first i j rest allowed one size r =
       rw (split-is s m first kd, drop-from (packet_at s m first) i 0 (packets_for (pmtu s) m.length) j i size (omega arith))
-      (ap (λ (x : Stage). stage_ends (run s x (map (packet_at s m first) (from (suc i) j) ++ rest))) (y-step s m kd first i one (omega (arith, size)))
+      (ap (λ (x : Option Stage). stage_ends (run s x (map (packet_at s m first) (from (suc i) j) ++ rest))) (y-step s m kd first i one (omega (arith, size)))
       ∙ ap stage_ends (inner-complete s m kd first allowed rest j i (behind s (packet_at s m first i)) (y-stands s m kd first i one (omega (arith, size))) (sym size))
       ∙ messages-pass s r)
 
-  front-pass : (m : Post) (first : ℕ) (rest : List Packet) → Allowed s m → Messages s rest → stage_ends (run s Start (packets_of s m first ++ rest)) ≡ true
+  front-pass : (m : Post) (first : ℕ) (rest : List Packet) → Allowed s m → Messages s rest → stage_ends (run s (Some Start) (packets_of s m first ++ rest)) ≡ true
   front-pass m first rest allowed r =
       let t = taken s m first rest allowed in
-      let e : stage_step s Start t.head ≡ new_message s t.head = rw t.front in
-      rw t.is (ap (λ (x : Stage). stage_ends (run s x (t.tail ++ rest))) e ∙ ap stage_ends t.runs ∙ messages-pass s r)
+      let e : stage_step s (Some Start) t.head ≡ new_message s t.head = rw t.front in
+      rw t.is (ap (λ (x : Option Stage). stage_ends (run s x (t.tail ++ rest))) e ∙ ap stage_ends t.runs ∙ messages-pass s r)
 
-  pub held-pass : {ps : List Packet} → Remaining s ps → stage_ends (run s Start ps) ≡ true
+  pub held-pass : {ps : List Packet} → Remaining s ps → stage_ends (run s (Some Start) ps) ≡ true
   held-pass none_left = refl
   held-pass (rear m first zero rest allowed h e r) = rw e (front-pass m first rest allowed r)
   held-pass (rear m first (suc k) rest allowed h e r) =

@@ -1,5 +1,5 @@
 -- The walk stands inside a message: it takes the rest of the records of any allowed post.
-use Rattle.std.specs.Prelude.{if◌then◌else◌}
+use Rattle.std.specs.Prelude.{Option, Some, if◌then◌else◌}
 use mathlib.Core.Path.{◌≡◌, refl, sym, ap, ◌∙◌}
 use mathlib.Core.Bool.{Bool, true, false}
 use mathlib.Core.List.{List, ◌++◌, map}
@@ -221,12 +221,12 @@ module _ (s : Settings) (m : Post) (kd : m.kind ≤ 1) (first : ℕ) where
 
   -- the rest of the message, and then what follows
   pub inner-complete : Allowed s m → (rest : List Packet) (j i : ℕ) (w : Begun) → Stands i w → i + suc j ≡ packets_for (pmtu s) m.length
-      → run s (Inside w) (map (packet_at s m first) (from i (suc j)) ++ rest) ≡ run s Between rest
+      → run s (Some (Inside w)) (map (packet_at s m first) (from i (suc j)) ++ rest) ≡ run s (Some Between) rest
   unfolding z n
   inner-complete allowed rest zero i w st h =
-      let e : inner s w (packet_at s m first i) ≡ Between = rw (not-middle i w st (omega arith), last-closes allowed i w st (omega arith)) in
-      ap (λ (x : Stage). run s x rest) e
+      let e : inner s w (packet_at s m first i) ≡ Some Between = rw (not-middle i w st (omega arith), last-closes allowed i w st (omega arith)) in
+      ap (λ (x : Option Stage). run s x rest) e
   inner-complete allowed rest (suc j) i w st h =
-      let e : inner s w (packet_at s m first i) ≡ Inside (more w) = rw (goes_on_lem allowed i w st (omega arith)) in
-      ap (λ (x : Stage). run s x (map (packet_at s m first) (from (suc i) (suc j)) ++ rest)) e
+      let e : inner s w (packet_at s m first i) ≡ Some (Inside (more w)) = rw (goes_on_lem allowed i w st (omega arith)) in
+      ap (λ (x : Option Stage). run s x (map (packet_at s m first) (from (suc i) (suc j)) ++ rest)) e
       ∙ inner-complete allowed rest j (suc i) (more w) (stands-more i w st) (omega arith)

@@ -1,5 +1,5 @@
 -- What the walk over the messages passes is held: whole splits of allowed posts, of the first perhaps only the rear part.
-use Rattle.std.specs.Prelude.{if◌then◌else◌}
+use Rattle.std.specs.Prelude.{Option, None, Some, if◌then◌else◌}
 use mathlib.Core.Path.{◌≡◌, refl, sym, ap, ◌∙◌}
 use mathlib.Core.Bool.{Bool, true, false, false≢true}
 use mathlib.Core.List.{List, [], ◌∷◌, ◌++◌, map}
@@ -13,7 +13,7 @@ use Rattle.rules.specs.declared.Settings.{Settings}
 use Rattle.rules.specs.declared.Post.{Post}
 use Rattle.rules.specs.declared.carried.Begun.{Begun}
 use Rattle.rules.specs.declared.carried.Stage.{Stage}
-use Rattle.rules.specs.declared.carried.Stage.TheVariants.{Start, Between, Inside, Lost}
+use Rattle.rules.specs.declared.carried.Stage.TheVariants.{Start, Between, Inside}
 use Rattle.psn.specs.Psn.{psns, plus}
 use Rattle.wire.specs.Opcodes.{has_reth, has_immediate}
 use Rattle.rules.specs.Message.{pmtu, packets_for, is_read, from, opcode_at, length_at, made, packet_at, packets_of}
@@ -25,17 +25,17 @@ use Rattle.rules.proofs.Sides.Good.{length-packets, slots-pos}
 use Rattle.rules.proofs.Passes.Tests.{both, joined, same_true, allowed_of}
 
 -- the walk over a list of records
-abbrev pub run : Settings → Stage → List Packet → Stage
+abbrev pub run : Settings → Option Stage → List Packet → Option Stage
 run s w [] = w
 run s w (p ∷ ps) = run s (stage_step s w p) ps
 
-pub lost-stays : (s : Settings) (ps : List Packet) → stage_ends (run s Lost ps) ≡ false
-lost-stays s [] = refl
-lost-stays s (p ∷ ps) = lost-stays s ps
+pub none-stays : (s : Settings) (ps : List Packet) → stage_ends (run s None ps) ≡ false
+none-stays s [] = refl
+none-stays s (p ∷ ps) = none-stays s ps
 
-kept : (s : Settings) (t : Bool) (a : Stage) (ps : List Packet) → stage_ends (run s (if t then a else Lost) ps) ≡ true → (t ≡ true) × (stage_ends (run s a ps) ≡ true)
+kept : (s : Settings) (t : Bool) (a : Option Stage) (ps : List Packet) → stage_ends (run s (if t then a else None) ps) ≡ true → (t ≡ true) × (stage_ends (run s a ps) ≡ true)
 kept s true a ps e = (refl, e)
-kept s false a ps e = absurd (false≢true (sym (lost-stays s ps) ∙ e))
+kept s false a ps e = absurd (false≢true (sym (none-stays s ps) ∙ e))
 
 -- ---- opcodes of a Send or Write
 
@@ -148,8 +148,8 @@ module _ (s : Settings) where
     pub messages : Messages s rest
 
   pub record Sound (ps : List Packet) : Type 0 where
-    pub between : stage_ends (run s Between ps) ≡ true → Messages s ps
-    pub inside : (w : Begun) → w.kind ≤ 1 → 1 ≤ w.count → stage_ends (run s (Inside w) ps) ≡ true → Rest w ps
+    pub between : stage_ends (run s (Some Between) ps) ≡ true → Messages s ps
+    pub inside : (w : Begun) → w.kind ≤ 1 → 1 ≤ w.count → stage_ends (run s (Some (Inside w)) ps) ≡ true → Rest w ps
 
   module _ (p : Packet) (ps : List Packet) (later : Sound ps) where
     -- one more Middle
@@ -169,7 +169,7 @@ module _ (s : Settings) where
         }
 
     -- the last record
-    last : (w : Begun) → (closes s w p ≡ true) × (stage_ends (run s Between ps) ≡ true) → Rest w (p ∷ ps)
+    last : (w : Begun) → (closes s w p ≡ true) × (stage_ends (run s (Some Between) ps) ≡ true) → Rest w (p ∷ ps)
     unfolding closes
     last w h =
         let m = whole_post s w p in
@@ -197,7 +197,7 @@ module _ (s : Settings) where
     inside-step w k c e =
         by-test (goes_on s w p)
         (λ t. one_more w k c (goes_on_lem w t) (later.inside (more w) k (omega arith) (rw t at e)))
-        (λ t. last w (kept s (closes s w p) Between ps (rw t at e)))
+        (λ t. last w (kept s (closes s w p) (Some Between) ps (rw t at e)))
 
     -- a message of one record
     single-split : single s p ≡ true → packets_of s (alone p) p.psn ≡ p ∷ []
@@ -247,7 +247,7 @@ module _ (s : Settings) where
         (λ t.
         message (alone p) p.psn ps (single-allowed t) (ap (λ (l : List Packet). l ++ ps) (sym (single-split t))) (later.between (rw t at e)))
         (λ t.
-        let h = kept s (opens s p) (Inside (begun p)) ps (rw t at e) in
+        let h = kept s (opens s p) (Some (Inside (begun p))) ps (rw t at e) in
         first-message h.0 (later.inside (begun p) (first_kind h.0) (omega arith) h.1))
 
   pub sound : (ps : List Packet) → Sound ps
@@ -272,7 +272,7 @@ module _ (s : Settings) where
       let h : 1 < length (packets_of s m first) = rw l (omega arith) in
       rear m first 1 r.rest r.allowed h e r.messages
 
-  pub held_of : (ps : List Packet) → stage_ends (run s Start ps) ≡ true → Remaining s ps
+  pub held_of : (ps : List Packet) → stage_ends (run s (Some Start) ps) ≡ true → Remaining s ps
   held_of [] e = none_left
   held_of (p ∷ ps) e =
       by-test (is_rear p)

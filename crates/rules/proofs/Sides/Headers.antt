@@ -1,6 +1,6 @@
 -- What goes out is a written header, never the 32 zeros of a refused one: every field is in its range.
-use Rattle.std.specs.Prelude.{if◌then◌else◌}
-use mathlib.Core.Path.{◌≡◌, refl, ap, ◌∙◌}
+use Rattle.std.specs.Prelude.{Ok, if◌then◌else◌}
+use mathlib.Core.Path.{◌≡◌, refl, subst}
 use mathlib.Core.Bool.{false}
 use mathlib.Core.List.{List, ◌++◌}
 use Prim.Native.Nat.{ℕ, suc, ◌+◌, ◌-◌, ◌*◌, ◌%◌, ◌≤◌, ◌<◌}
@@ -12,8 +12,6 @@ use Rattle.refusal.proofs.Each.{each-drop, each_map, each_both}
 use Rattle.refusal.specs.Choice.{Each}
 use Rattle.refusal.proofs.Cases.{if-case}
 use Rattle.psn.specs.Psn.{psns, distance, before}
-use Rattle.wire.specs.declared.Size.TheVariants.{Length}
-use Rattle.wire.specs.declared.Written.{Written}
 use Rattle.wire.specs.Opcodes.{header_length}
 use Rattle.wire.specs.Header.{header_bytes, written, is_out_of_range, write_of}
 use Rattle.wire.proofs.Writing.{write-whole}
@@ -76,9 +74,8 @@ in-its-range s q far low = rw (le-ltb 3 (pad_for q.length) (pad-small q.length),
 
 -- the written header has its opcode's length, and zeros follow it
 pub record Headed (t : Standing) (p : Packet) : Type 0 where
-  pub size : (write_of (header_of t.settings (sent t p))).size ≡ Length (header_length p.opcode)
-  pub bytes : (write_of (header_of t.settings (sent t p))).bytes
-      ≡ written (header_of t.settings (sent t p)) ++ replicate (header_bytes - header_length p.opcode) 0
+  pub whole : write_of (header_of t.settings (sent t p))
+      ≡ Ok (record { length = header_length p.opcode; bytes = written (header_of t.settings (sent t p)) ++ replicate (header_bytes - header_length p.opcode) 0 })
 
 module _ (t : Standing) (far : t.settings.far < psns) (u-low : t.line.u < psns) where
   sent-opcode : (p : Packet) → (sent t p).opcode ≡ p.opcode
@@ -96,10 +93,11 @@ module _ (t : Standing) (far : t.settings.far < psns) (u-low : t.line.u < psns) 
       let same = sent-opcode p in
       let is = write-whole (header_of t.settings q) (in-its-range t.settings q far (sent-low p low)) (le-leb q.opcode 17 (omega arith)) in
       record {
-        size = ap (λ (w : Written). w.size) is ∙ ap (λ (op : ℕ). Length (header_length op)) same;
-        bytes =
-            ap (λ (w : Written). w.bytes) is
-            ∙ ap (λ (op : ℕ). written (header_of t.settings q) ++ replicate (header_bytes - header_length op) 0) same;
+        whole =
+            subst
+            (λ (op : ℕ). write_of (header_of t.settings q)
+            ≡ Ok (record { length = header_length op; bytes = written (header_of t.settings q) ++ replicate (header_bytes - header_length op) 0 }))
+            same is;
       }
 
 -- ---- what an audited pair emits

@@ -1,5 +1,5 @@
 -- One pair's queue: links, order and messages together, in one walk by the links.
-use Rattle.std.specs.Prelude.{Bool, true, List, ℕ, zero, suc, eqb, length, if◌then◌else◌}
+use Rattle.std.specs.Prelude.{Bool, true, Some, List, ℕ, zero, suc, eqb, length, if◌then◌else◌}
 use Rattle.rules.specs.declared.Standing.{Standing}
 use Rattle.rules.specs.declared.Queue.{Queue}
 use Rattle.rules.specs.declared.Slot.{Slot}
@@ -14,7 +14,7 @@ use Rattle.rules.specs.Passes.Tests.{◌and◌}
 
 -- before the first slot
 abbrev pub walk_from : ℕ → Queue → Walk
-walk_from none q = record { trail = trail_from none q; course = course_from; stage = Start }
+walk_from none q = record { trail = trail_from none q; course = course_from; stage = Some Start }
 
 -- one slot on
 abbrev pub step : ℕ → Standing → Walk → Slot → Walk

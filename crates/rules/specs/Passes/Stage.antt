@@ -1,12 +1,12 @@
 -- The messages of a ready pair: each record is compared as a whole with the one that must stand there.
-use Rattle.std.specs.Prelude.{Bool, true, false, not, ℕ, suc, ◌+◌, ◌-◌, ◌*◌, ◌/◌, ◌%◌, ltb, leb, eqb, if◌then◌else◌}
+use Rattle.std.specs.Prelude.{Bool, true, false, not, Option, None, Some, ℕ, suc, ◌+◌, ◌-◌, ◌*◌, ◌/◌, ◌%◌, ltb, leb, eqb, if◌then◌else◌}
 use Rattle.psn.specs.Psn.{psns, plus}
 use Rattle.rules.specs.declared.Packet.{Packet}
 use Rattle.rules.specs.declared.Settings.{Settings}
 use Rattle.rules.specs.declared.Post.{Post}
 use Rattle.rules.specs.declared.carried.Begun.{Begun}
 use Rattle.rules.specs.declared.carried.Stage.{Stage}
-use Rattle.rules.specs.declared.carried.Stage.TheVariants.{Start, Between, Inside, Lost}
+use Rattle.rules.specs.declared.carried.Stage.TheVariants.{Start, Between, Inside}
 use Rattle.wire.specs.Opcodes.{has_immediate}
 use Rattle.rules.specs.Message.{pmtu, packets_for, read_request, is_read, made, packet_at}
 use Rattle.rules.specs.Ranges.{bad_post, over_ceiling}
@@ -84,9 +84,9 @@ begun p =
       count = 1;
     }
 
--- the first record of a message
-abbrev pub new_message : Settings → Packet → Stage
-new_message s p = if single s p then Between else if opens s p then Inside (begun p) else Lost
+-- the first record of a message; none where it begins none
+abbrev pub new_message : Settings → Packet → Option Stage
+new_message s p = if single s p then Some Between else if opens s p then Some (Inside (begun p)) else None
 
 -- the post of a message that is not at its end; no later record shows its key
 abbrev pub post_of : Begun → Bool → ℕ → ℕ → Post
@@ -140,8 +140,8 @@ closes s w p =
     and (if w.whole and eqb w.kind 1 then eqb w.total m.length else true)
 
 -- a record after the first
-abbrev pub inner : Settings → Begun → Packet → Stage
-inner s w p = if goes_on s w p then Inside (more w) else if closes s w p then Between else Lost
+abbrev pub inner : Settings → Begun → Packet → Option Stage
+inner s w p = if goes_on s w p then Some (Inside (more w)) else if closes s w p then Some Between else None
 
 -- ---- a message of which only the rear is held
 
@@ -164,21 +164,21 @@ behind s p =
     }
 
 -- the first record of a rear part
-abbrev pub rear_step : Settings → Packet → Stage
-rear_step s p = if leb (pmtu s) p.offset then inner s (behind s p) p else Lost
+abbrev pub rear_step : Settings → Packet → Option Stage
+rear_step s p = if leb (pmtu s) p.offset then inner s (behind s p) p else None
 
 -- ---- all messages
 
--- one record on
-abbrev pub stage_step : Settings → Stage → Packet → Stage
-stage_step s Start p = if is_rear p then rear_step s p else new_message s p
-stage_step s Between p = new_message s p
-stage_step s (Inside w) p = inner s w p
-stage_step s Lost p = Lost
+-- one record on; none once some record went on with no message
+abbrev pub stage_step : Settings → Option Stage → Packet → Option Stage
+stage_step s None p = None
+stage_step s (Some Start) p = if is_rear p then rear_step s p else new_message s p
+stage_step s (Some Between) p = new_message s p
+stage_step s (Some (Inside w)) p = inner s w p
 
 -- what it must be after the last record: no message is left open
-abbrev pub stage_ends : Stage → Bool
-stage_ends Start = true
-stage_ends Between = true
-stage_ends (Inside w) = false
-stage_ends Lost = false
+abbrev pub stage_ends : Option Stage → Bool
+stage_ends None = false
+stage_ends (Some Start) = true
+stage_ends (Some Between) = true
+stage_ends (Some (Inside w)) = false

@@ -1,5 +1,5 @@
 -- The tables: each pair passes, then the free queue with what the pairs leave it; their last slots differ, and neither slots nor claims are more than there are slots.
-use Rattle.std.specs.Prelude.{Bool, true, false, not, List, [], ◌∷◌, map, ℕ, ◌+◌, ◌-◌, ◌/◌, ◌%◌, ◌^◌, max, ltb, leb, eqb, length, get_or, set, replicate, if◌then◌else◌}
+use Rattle.std.specs.Prelude.{Bool, not, Option, None, Some, is_some, List, [], ◌∷◌, map, ℕ, ◌+◌, ◌-◌, ◌/◌, ◌%◌, ◌^◌, max, ltb, leb, eqb, length, get_or, set, replicate, if◌then◌else◌}
 use Rattle.rules.specs.declared.Queue.{Queue}
 use Rattle.rules.specs.declared.Pair.{Pair}
 use Rattle.rules.specs.declared.Slot.{Slot}
@@ -50,20 +50,16 @@ entry_of card s p = record { passed = pair_passes card s p; queue = p.queue; cla
 
 -- after a queue that holds nothing
 abbrev pub add_claim : Tally → Entry → Tally
-add_claim t e = record { words = t.words; held = t.held; claimed = t.claimed + e.claim; ok = true }
+add_claim t e = record { words = t.words; held = t.held; claimed = t.claimed + e.claim }
 
 -- after a queue that holds something
 abbrev pub add_queue : Tally → Entry → Tally
-add_queue t e = record { words = put t.words e.queue.last; held = t.held + e.queue.held; claimed = t.claimed + e.claim; ok = true }
+add_queue t e = record { words = put t.words e.queue.last; held = t.held + e.queue.held; claimed = t.claimed + e.claim }
 
 module _ (slots : ℕ) where
   -- before the first queue
-  abbrev pub tally_from : Tally
-  tally_from = record { words = none_of slots; held = 0; claimed = 0; ok = true }
-
-  -- some queue failed
-  abbrev pub failed : Tally
-  failed = record { words = none_of slots; held = 0; claimed = 0; ok = false }
+  abbrev pub tally_from : Option Tally
+  tally_from = Some (record { words = none_of slots; held = 0; claimed = 0 })
 
   -- a queue that holds something: its last slot was no other's
   abbrev pub is_new : List ℕ → Queue → Bool
@@ -71,19 +67,20 @@ module _ (slots : ℕ) where
 
   -- the queue passed, and what it adds to either sum fits into the table
   abbrev pub tally_fits : Tally → Entry → Bool
-  tally_fits t e = t.ok and e.passed and leb (t.held + e.queue.held) slots and leb (t.claimed + e.claim) slots
+  tally_fits t e = e.passed and leb (t.held + e.queue.held) slots and leb (t.claimed + e.claim) slots
 
-  -- one queue on
-  abbrev pub tally_step : Tally → Entry → Tally
-  tally_step t e =
+  -- one queue on; none once some queue failed
+  abbrev pub tally_step : Option Tally → Entry → Option Tally
+  tally_step None e = None
+  tally_step (Some t) e =
       if tally_fits t e
-      then (if eqb e.queue.held 0 then add_claim t e
-      else if is_new t.words e.queue then add_queue t e
-      else failed)
-      else failed
+      then (if eqb e.queue.held 0 then Some (add_claim t e)
+      else if is_new t.words e.queue then Some (add_queue t e)
+      else None)
+      else None
 
   -- queues in their order
-  abbrev pub tallied : Tally → List Entry → Tally
+  abbrev pub tallied : Option Tally → List Entry → Option Tally
   tallied t [] = t
   tallied t (e ∷ es) = tallied (tally_step t e) es
 
@@ -96,13 +93,18 @@ abbrev pub free_entry : Card → Tables → Tally → Entry
 free_entry card t w = record { passed = links_pass card.none t.slots (leftover card.slots t w); queue = leftover card.slots t w; claim = 0 }
 
 -- after the pairs
-abbrev pub pairs_tally : Card → Tables → Tally
+abbrev pub pairs_tally : Card → Tables → Option Tally
 pairs_tally card t = tallied card.slots (tally_from card.slots) (map (entry_of card t.slots) t.pairs)
 
+-- the free queue on; none where some pair failed
+abbrev pub free_step : Card → Tables → Option Tally → Option Tally
+free_step card t None = None
+free_step card t (Some w) = tally_step card.slots (Some w) (free_entry card t w)
+
 -- and after the free queue
-abbrev pub whole_tally : Card → Tables → Tally
-whole_tally card t = tally_step card.slots (pairs_tally card t) (free_entry card t (pairs_tally card t))
+abbrev pub whole_tally : Card → Tables → Option Tally
+whole_tally card t = free_step card t (pairs_tally card t)
 
 -- the audit's answer
 unfoldable pub passes : Card → Tables → Bool
-passes card t = eqb (length t.pairs) card.pairs and eqb (length t.slots) card.slots and (whole_tally card t).ok
+passes card t = eqb (length t.pairs) card.pairs and eqb (length t.slots) card.slots and is_some (whole_tally card t)

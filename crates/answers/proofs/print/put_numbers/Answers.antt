@@ -1,15 +1,18 @@
-use Rattle.std.proofs.Common.{◌<◌, length, get_or, arith}
+use Rattle.std.proofs.Common.{◌<◌, length, get_or, ◌∙◌, arith}
 use Rattle.text.proofs.Putting.{putting-more, putting-end}
 use Rattle.answers.specs.Said.{numeral}
 use Rattle.answers.proofs.Saying.{spaced-at, spaced-none}
 use Rattle.answers.proofs.print.put_numbers.Goals as goal
 
-pub loop-i-preserved : goal.loop-i-preserved
-loop-i-preserved c =
+pub loop-n-preserved : goal.loop-n-preserved
+loop-n-preserved c =
     let s = c.args.numbers.now in
-    let i = c.loop-i.i in
+    let i = c.loop-n.n-index in
     let more : i < length s = omega arith in
-    putting-more c.loop-i.invariant more (numeral (get_or s i 0)) (spaced-at s i more) c.put_number-to.auto.out c.put_number-to.ensures
+    record {
+      same = c.put_number.ensures.same ∙ c.loop-n.invariant.same;
+      put = putting-more c.loop-n.invariant.put more (numeral (get_or s i 0)) (spaced-at s i more) c.put_number.ensures.after;
+    }
 
-pub returns : goal.returns
-returns c = putting-end c.loop-i.invariant c.loop-i-test.false spaced-none
+pub returns-clause-after : goal.returns-clause-after
+returns-clause-after c = putting-end c.loop-n.invariant.put c.loop-n-test.false spaced-none

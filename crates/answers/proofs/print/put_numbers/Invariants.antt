@@ -1,12 +1,13 @@
--- The numbers are put up to `i`.
-use Rattle.std.proofs.Common.{length, ◌-◌}
+-- The numbers so far are put.
+use Rattle.std.proofs.Common.{◌≡◌}
 use Rattle.text.specs.Out.{out as Out·out}
 use Rattle.text.proofs.Putting.{Putting}
 use Rattle.answers.specs.Said.{spaced}
 use Rattle.answers.proofs.print.put_numbers.Given as goal
 
-abbrev pub invariant-loop-i : goal.invariant-loop-i
-invariant-loop-i l = Putting spaced l.numbers (Out·out l.fn.out l.at) l.out l.to l.i
-
-abbrev pub decreases-loop-i : goal.decreases-loop-i
-decreases-loop-i l = length l.numbers - l.i
+abbrev pub invariant-loop-n : goal.invariant-loop-n
+invariant-loop-n l =
+    record {
+      same : l.out.bytes.ghost_name ≡ l.initial.out.bytes.ghost_name;
+      put : Putting spaced l.numbers (Out·out l.initial.out.bytes.now l.initial.out.at) l.out.bytes.now l.out.at l.n-index;
+    }

@@ -8,8 +8,8 @@ use mathlib.Core.Path.{sym, ◌∙◌}
 use borrow.Author.Tests.{ltb-true}
 use Rattle.audit.proofs.messages.inner.Goals as goal
 
-pub more-next-requires : goal.more-next-requires
+pub more-requires : goal.more-requires
 unfolding goes_on capped
-more-next-requires c =
+more-requires c =
     let a = c.args in
     omega (arith, ltb-true (suc a.w.count) a.s.ceiling (both (sym c.goes_on.ensures ∙ c.if-goes_on.true)).1)

@@ -1,4 +1,4 @@
--- What is left of the loop comes to what the whole does, and no slot is written.
+-- What is left of the loop comes to what the whole does.
 use Rattle.refusal.proofs.Loop.{Keeps}
 use Rattle.walks.specs.Acting.{Emitted, emit_turn}
 use Rattle.card.proofs.acting.emit.Given as goal

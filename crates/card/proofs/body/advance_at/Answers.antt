@@ -14,8 +14,8 @@ pub returns-else-i-pairs : goal.returns-else-i-pairs
 unfolding pair_at
 returns-else-i-pairs c =
     let a = c.args in
-    let none : c.no_pair-none.result ≡ pair_at a.pairs.now a.i =
-    c.no_pair-none.ensures ∙ sym (get_or_past a.pairs.now a.i no_pair (omega (arith, c.if-i-pairs.false))) in (
+    let none : c.no_pair.result ≡ pair_at a.pairs.now a.i =
+    c.no_pair.ensures ∙ sym (get_or_past a.pairs.now a.i no_pair (omega (arith, c.if-i-pairs.false))) in (
       c.finish.ensures ∙ ap (λ (p : Pair). finished p a.e a.g a.w) none,
       sym (set_past a.pairs.now a.i _ (omega (arith, c.if-i-pairs.false))),
     )

@@ -10,5 +10,5 @@ returns c =
     let d = c.decide-g.ensures in
     let w = c.act-w.ensures in
     let t = c.advance_at-t.ensures in
-    rw (t.0, t.1, w.0, w.1.0, w.1.1.0, w.1.1.1, d.0, d.1.0, d.1.1, c.place-at.ensures, c.room_within-room.ensures)
+    rw (t.0, t.1, w.0, w.1.0, w.1.1.0, w.1.1.1, d, c.room_within-room.ensures)
     (refl, (refl, (refl, (refl, (refl, refl)))))

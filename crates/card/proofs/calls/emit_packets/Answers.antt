@@ -1,5 +1,5 @@
--- The bytes are lent, and a row of one number that the call does not use.
-use Rattle.std.proofs.Common.{◌∷◌, [], length}
+-- The bytes are lent, and no numbers.
+use Rattle.std.proofs.Common.{[], length}
 use Rattle.engine.specs.declared.Ask.TheVariants.{Emit}
 use Rattle.engine.specs.Body.{ruled}
 use Rattle.card.specs.Lent.{lent}
@@ -11,6 +11,6 @@ unfolding ruled
 returns c =
     let a = c.args in
     let e =
-    runs-ruled _ (record { numbers = 0; bytes = length a.out.now }) a.pair _ (Emit a.budget) (lent a.pairs.now a.ends.now a.slots.now) (0 ∷ []) a.out.now
-    c.limits_of-limits.ensures c.to_emit-ask.ensures (min-same (length a.out.now)) c.call.ensures in
+    runs-ruled (record { numbers = 0; bytes = length a.out.now }) a.pair (Emit a.budget) (lent a.pairs.now a.ends.now a.slots.now) [] a.out.now
+    (min-same (length a.out.now)) c.call.ensures in
     (e.0, (e.1.0, (e.1.1.0, (e.1.1.1.0, e.1.1.1.1.1))))

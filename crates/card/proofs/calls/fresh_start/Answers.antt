@@ -4,5 +4,5 @@ use Rattle.card.proofs.calls.fresh_start.Goals as goal
 
 pub returns : goal.returns
 returns c =
-    rw (c.fill_pairs.ensures.1, c.fill_slots.ensures.1, c.start_of-s.ensures)
+    rw (c.fill.ensures, c.fill-2.ensures, c.start_of-s.ensures)
     (started-is c.args.pairs.now c.args.ends.now c.args.slots.now)

@@ -1,16 +1,11 @@
--- The numbers are lent, and a row of one byte that the call does not use.
-use Rattle.std.proofs.Common.{◌∷◌, [], length}
 use Rattle.engine.specs.declared.Ask.TheVariants.{Respond}
 use Rattle.engine.specs.Body.{ruled}
 use Rattle.card.specs.Lent.{lent}
-use Rattle.card.proofs.Called.{min-same, runs-ruled}
+use Rattle.card.proofs.Called.{min-same, numbers-ruled}
 use Rattle.card.proofs.calls.read_response.Goals as goal
 
 pub returns : goal.returns
 unfolding ruled
 returns c =
     let a = c.args in
-    let e =
-    runs-ruled _ (record { numbers = length a.done.now; bytes = 0 }) a.pair _ (Respond a.psn a.opcode a.length) (lent a.pairs.now a.ends.now a.slots.now) a.done.now (0 ∷ [])
-    c.limits_of-limits.ensures c.to_respond-ask.ensures (min-same (length a.done.now)) c.call.ensures in
-    (e.0, (e.1.0, (e.1.1.0, (e.1.1.1.0, e.1.1.1.1.0))))
+    numbers-ruled a.pair (Respond a.psn a.opcode a.length) (lent a.pairs.now a.ends.now a.slots.now) a.done.now (min-same _) c.call_with_numbers.ensures

@@ -4,4 +4,4 @@ use Rattle.card.proofs.places.relink.Goals as goal
 
 pub returns : goal.returns
 unfolding relinked
-returns c = simp (c.put_slot_if.ensures, c.with_link-after.ensures, c.slot_at-before.ensures.0, c.slot_at-before.ensures.1)
+returns c = simp (c.put_if.ensures, c.with_link.ensures, c.slot_at.ensures)

@@ -3,18 +3,17 @@ use mathlib.Core.Path.{◌≡◌}
 use Prim.Native.Nat.{◌%◌, ◌^◌}
 use native.Mathlib.Omega.{arith}
 use Rattle.message.specs.Capped.{cut}
+use Rattle.std.proofs.Common.{rules}
 use Rattle.message.proofs.places.make.Goals as goal
 
-pub returns : goal.returns
+pub returns-then-has_immediate : goal.returns-then-has_immediate
 unfolding cut
-returns c =
+returns-then-has_immediate c =
     let offset : c.args.offset % 2 ^ 32 ≡ c.args.offset = omega arith in
-    simp (
-      ← c.has_reth-reth.ensures,
-      ← c.has_immediate-late.ensures,
-      ← c.when_wide-address.ensures,
-      ← c.when-key.ensures,
-      ← c.when-total.ensures,
-      ← c.when-value.ensures,
-      offset,
-    )
+    search rules
+
+pub returns-else-has_immediate : goal.returns-else-has_immediate
+unfolding cut
+returns-else-has_immediate c =
+    let offset : c.args.offset % 2 ^ 32 ≡ c.args.offset = omega arith in
+    search rules

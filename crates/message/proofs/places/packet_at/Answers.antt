@@ -9,11 +9,11 @@ returns c =
     let a = c.args in
     simp (
       c.make.ensures,
-      c.length_at-len.ensures,
-      c.offset_at-offset.ensures,
-      c.bytes_of-by.ensures.0,
-      c.plus-psn.ensures,
-      c.opcode_at-op.ensures.0,
+      c.length_at.ensures,
+      c.offset_at.ensures,
+      c.bytes_of.ensures,
+      c.plus.ensures,
+      c.opcode_at.ensures.0,
       c.psns_for-n.ensures.0,
     )
     (cut_again (packet_at (capped a.s) a.m a.first a.i))

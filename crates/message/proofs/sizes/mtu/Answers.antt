@@ -12,4 +12,4 @@ unfolding capped
 returns c =
     let code = min c.args.s.pmtu 5 in
     let e = shifted 7 32 5 code (omega arith) (min-le_right c.args.s.pmtu 5) in
-    rw (c.smaller-code.ensures, e.exact, e.is) (refl, e.low, e.high)
+    rw (c.min.ensures, e.exact, e.is) (refl, e.low, e.high)

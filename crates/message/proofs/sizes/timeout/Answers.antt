@@ -12,4 +12,4 @@ unfolding capped
 returns c =
     let code = min c.args.s.timeout 31 in
     let e = shifted 12 64 31 code (omega arith) (min-le_right c.args.s.timeout 31) in
-    rw (c.smaller-code.ensures, e.exact) (refl, rw e.is e.high)
+    rw (c.min.ensures, e.exact) (refl, rw e.is e.high)

@@ -1,12 +1,12 @@
-use Rattle.std.proofs.Common.{sym, arith}
-use Rattle.text.proofs.Places.{placing-more, placing-found, placing-end}
+-- The word that an arm has matched is the arm's text.
+use Rattle.std.proofs.Common.{◌≡◌, ℕ, List, length, sym, ap, rules, arith}
+use Rattle.std.proofs.lemmas.Slice.Eq.{HasBytesAt, text_from_reads}
+use Rattle.text.specs.Text.{bytes}
+use Rattle.text.specs.Inner.{row_of}
 use Rattle.text.proofs.calls.find_call.Goals as goal
 
-pub returns-then-is_named : goal.returns-then-is_named
-returns-then-is_named c = placing-found c.loop-k.invariant (omega arith) (sym c.if-is_named.ensures)
+named : (w p : List ℕ) → length w ≡ length p → HasBytesAt w 0 p → row_of p ≡ row_of w
+named w p e h = ap row_of (sym (text_from_reads w p e h))
 
-pub loop-k-preserved : goal.loop-k-preserved
-loop-k-preserved c = placing-more c.loop-k.invariant (omega arith) (sym c.if-is_named.ensures)
-
-pub returns : goal.returns
-returns c = placing-end c.loop-k.invariant c.loop-k-test.false
+pub returns-in-response : goal.returns-in-response
+returns-in-response c = named c.args.word.now (bytes "response") (omega arith) (search rules)

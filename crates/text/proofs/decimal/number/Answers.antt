@@ -1,26 +1,32 @@
-use Rattle.std.proofs.Common.{arith}
-use Rattle.text.proofs.Numbers.{number-none, reading-start, reading-more, reading-low, reading-high, reading-large, reading-end}
+use Rattle.std.proofs.Common.{sym, ◌∙◌, arith}
+use Rattle.text.proofs.Numbers.{number-none, reading-start, reading-more, reading-other, reading-large, reading-end}
 use Rattle.text.proofs.decimal.number.Goals as goal
 
-pub returns-then-word-eq0 : goal.returns-then-word-eq0
-returns-then-word-eq0 c = number-none _ c.if-word-eq0.true
+pub returns-then-is_empty : goal.returns-then-is_empty
+returns-then-is_empty c = number-none _ (sym c.if-is_empty.ensures)
 
-pub loop-i-init : goal.loop-i-init
-loop-i-init c = reading-start _ c.if-word-eq0.false
+pub loop-b-init : goal.loop-b-init
+loop-b-init c = reading-start _ (sym c.if-is_empty.ensures)
 
-pub returns-then-b-lt48 : goal.returns-then-b-lt48
-returns-then-b-lt48 c = reading-low c.loop-i.invariant (omega arith) c.wide-b.ensures c.if-b-lt48.true
+pub returns-then-not-is_ascii_digit : goal.returns-then-not-is_ascii_digit
+returns-then-not-is_ascii_digit c =
+    reading-other c.loop-b.invariant c.loop-b-test.true (sym c.if-not-is_ascii_digit.ensures.value)
 
-pub returns-then-b-gt57 : goal.returns-then-b-gt57
-returns-then-b-gt57 c = reading-high c.loop-i.invariant (omega arith) c.wide-b.ensures c.if-b-gt57.true
+pub returns-in_err-checked_mul : goal.returns-in_err-checked_mul
+returns-in_err-checked_mul c =
+    c.from_residual.ensures
+    ∙ reading-large c.loop-b.invariant c.loop-b-test.true (sym c.if-not-is_ascii_digit.ensures.value) (omega (arith, c.in_err-checked_mul.ensures))
 
-pub returns-then-n-d : goal.returns-then-n-d
-returns-then-n-d c =
-    reading-large c.loop-i.invariant (omega arith) c.wide-b.ensures (omega arith) (omega arith) (omega arith)
+pub returns-in_err-n : goal.returns-in_err-n
+returns-in_err-n c =
+    c.from_residual-in_err-n.ensures
+    ∙ reading-large c.loop-b.invariant c.loop-b-test.true (sym c.if-not-is_ascii_digit.ensures.value)
+    (omega (arith, c.in_ok-checked_mul.ensures, c.from.ensures, c.in_err-n.ensures))
 
-pub loop-i-preserved : goal.loop-i-preserved
-loop-i-preserved c =
-    reading-more c.loop-i.invariant (omega arith) c.wide-b.ensures (omega arith) (omega arith) (omega arith)
+pub loop-b-preserved : goal.loop-b-preserved
+loop-b-preserved c =
+    reading-more c.loop-b.invariant c.loop-b-test.true (sym c.if-not-is_ascii_digit.ensures.value)
+    (omega (arith, c.in_ok-checked_mul.ensures, c.from.ensures, c.in_ok-n.ensures)) (omega (arith, c.in_ok-n.ensures))
 
 pub returns : goal.returns
-returns c = reading-end c.loop-i.invariant c.loop-i-test.false
+returns c = reading-end c.loop-b.invariant c.loop-b-test.false

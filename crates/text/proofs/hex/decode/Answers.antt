@@ -1,29 +1,33 @@
--- No room, or the bytes up to `i`; a digit of a HEX is below 16.
-use Rattle.std.proofs.Common.{sym, ◌+◌, ◌*◌, arith}
-use Rattle.text.proofs.Decoding.{no_room, hex-small, filling-more, filling-end}
+-- No HEX, no room, or the bytes up to `i`.
+use Rattle.std.proofs.Common.{◌≡◌, ℕ, ◌*◌, ◌+◌, ◌<◌, sym, ap, ◌∙◌, length, get_or, arith}
+use Rattle.std.specs.Prelude.{Option, unwrap_or}
+use Rattle.text.specs.Hex.{nibble}
+use Rattle.text.proofs.Decoding.{value, value-is, no-hex, no_room, filling-more, filling-end}
 use Rattle.text.proofs.hex.decode.Goals as goal
+use Rattle.text.proofs.hex.decode.Goals.{then-not-is_hex-via-then-not-is_hex, then-not-is_hex-via-else-not-is_hex+then-n-out}
 
-pub returns-then-n-out-clause-value : goal.returns-then-n-out-clause-value
-returns-then-n-out-clause-value c =
-    (no_room c.args.word.now c.args.out.now (sym c.if-not-is_hex.ensures) c.if-n-out.true).0
+pub returns-then-not-is_hex-clause-value : goal.returns-then-not-is_hex-clause-value
+returns-then-not-is_hex-clause-value c =
+    elim c.then-not-is_hex.branch [
+      | then-not-is_hex-via-then-not-is_hex w ↦ (no-hex c.args.word.now c.args.out.now (sym w.if-not-is_hex.ensures)).0
+      | then-not-is_hex-via-else-not-is_hex+then-n-out w ↦ (no_room c.args.word.now c.args.out.now (sym w.if-not-is_hex.ensures) w.if-n-out.true).0
+    ]
 
-pub returns-then-n-out-clause-out_after : goal.returns-then-n-out-clause-out_after
-returns-then-n-out-clause-out_after c =
-    (no_room c.args.word.now c.args.out.now (sym c.if-not-is_hex.ensures) c.if-n-out.true).1
-
-pub overflow_mul-out : goal.overflow_mul-out
-overflow_mul-out c =
-    omega (arith, hex-small c.args.word.now (2 * c.loop-i.i) (sym c.if-not-is_hex.ensures) (omega arith) (omega arith))
-
-pub overflow_add-out : goal.overflow_add-out
-overflow_add-out c =
-    let w = c.args.word.now in
-    let is = sym c.if-not-is_hex.ensures in
-    omega (arith, hex-small w (2 * c.loop-i.i) is (omega arith) (omega arith), hex-small w (2 * c.loop-i.i + 1) is (omega arith) (omega arith))
+pub returns-then-not-is_hex-clause-out_after : goal.returns-then-not-is_hex-clause-out_after
+returns-then-not-is_hex-clause-out_after c =
+    elim c.then-not-is_hex.branch [
+      | then-not-is_hex-via-then-not-is_hex w ↦ (no-hex c.args.word.now c.args.out.now (sym w.if-not-is_hex.ensures)).1
+      | then-not-is_hex-via-else-not-is_hex+then-n-out w ↦ (no_room c.args.word.now c.args.out.now (sym w.if-not-is_hex.ensures) w.if-n-out.true).1
+    ]
 
 pub loop-i-preserved : goal.loop-i-preserved
 loop-i-preserved c =
-    filling-more c.loop-i.invariant c.loop-i-test.true c.if-n-out.false c.nibble-high.ensures c.nibble-low.ensures
+    filling-more c.loop-i.invariant c.loop-i-test.true c.if-n-out.false
+    (c.unwrap_or-high.ensures ∙ ap (λ (o : Option _). unwrap_or o 0) c.nibble.ensures ∙ digit (2 * c.loop-i.i) (omega arith))
+    (c.unwrap_or-low.ensures ∙ ap (λ (o : Option _). unwrap_or o 0) c.nibble-in-loop-i.ensures ∙ digit (2 * c.loop-i.i + 1) (omega arith))
+  where
+    digit : (k : ℕ) → k < length c.args.word.now → unwrap_or (nibble (get_or c.args.word.now k 0)) 0 ≡ value (get_or c.args.word.now k 0)
+    digit k h = value-is c.args.word.now k (sym c.if-not-is_hex.ensures) (omega arith) h
 
 pub returns-clause-value : goal.returns-clause-value
 returns-clause-value c =

@@ -1,44 +1,34 @@
--- The whole table, row by row, is what the definition says of each opcode, computed once.
-use Rattle.std.proofs.Common.{◌≡◌, refl, ◌∙◌, ap, Bool, List, [], ◌∷◌, ℕ, ◌/◌, ◌%◌, ◌<◌, ◌≤◌, eqb, get_or}
-use borrow.Author.Tests.{lt-leb}
+-- Each field is what the definition says of the opcode.
+use Rattle.std.proofs.Common.{◌≡◌, ℕ, sym, ◌∙◌, ap, not, ◌/◌, leb, Some}
+use borrow.Author.Tests.{lt-leb, le-leb}
+use Rattle.wire.specs.Bytes.{octet}
+use Rattle.wire.specs.Layout.{size}
+use Rattle.wire.specs.Opcodes.{joined, layout, header_length, row_of}
 use Rattle.wire.specs.declared.opcode.Carries.{Carries}
-use Rattle.wire.specs.Opcodes.{layout, header_length, carries_of}
-use Rattle.wire.proofs.Table.{rule}
+use Rattle.wire.proofs.Rows.{carries-known, carries-unknown}
 use Rattle.wire.proofs.opcode.Carries.of.Goals as goal
-use Rattle.wire.proofs.opcode.Carries.of.Goals.{then-at-lt18, else-at-lt18}
 
-abbrev rows : List ℕ
-rows = 22540 ∷ 18444 ∷ 26636 ∷ 27152 ∷ 30732 ∷ 31248 ∷ 22812 ∷ 18444 ∷ 26636 ∷ 27152 ∷ 31004 ∷ 31520 ∷ 28956 ∷ 39952 ∷ 34828 ∷ 44048 ∷ 48144 ∷ 46096 ∷ []
-
-abbrev bit : ℕ → ℕ → Bool
-bit row b = eqb (row / b % 2) 1
-
-abbrev unpacked : ℕ → Carries
-unpacked row =
-    record {
-      length = row % 256;
-      reth = bit row 0x100;
-      immediate = bit row 0x200;
-      aeth = bit row 0x400;
-      payload = bit row 0x800;
-      first = bit row 0x1000;
-      last = bit row 0x2000;
-      request = bit row 0x4000;
-      answer = bit row 0x8000;
-    }
-
-row_is : (n : ℕ) → n < 18 → unpacked (get_or rows n 0) ≡ carries_of n
-unfolding carries_of header_length layout
-row_is n h = rule unpacked carries_of 0 rows refl n h
-
-none_is : (n : ℕ) → 18 ≤ n → unpacked 0 ≡ carries_of n
-unfolding carries_of
-none_is n h = rw (lt-leb n 17 h)
+pub returns-then-opcode-gt17 : goal.returns-then-opcode-gt17
+returns-then-opcode-gt17 c = sym (carries-unknown c.args.opcode (lt-leb c.args.opcode 17 c.if-opcode-gt17.true))
 
 pub returns : goal.returns
+unfolding header_length layout
 returns c =
-    let op = c.args.opcode in
-    elim c.if-at-lt18.branch [
-      | then-at-lt18 w ↦ ap unpacked w.row-is ∙ row_is op w.if-at-lt18.true
-      | else-at-lt18 w ↦ ap unpacked w.row-is ∙ none_is op w.if-at-lt18.false
-    ]
+    let op = c.from-op.result in
+    let row : ◌≡◌ {A = Carries} _ (row_of op) =
+    λ i. record {
+      length =
+          (c.length.ensures
+          ∙ (λ j. size (joined (c.has_reth-reth.ensures j) (c.has_immediate-immediate.ensures j) (c.has_aeth-aeth.ensures j)) / octet)) i;
+      reth = c.has_reth-reth.ensures i;
+      immediate = c.has_immediate-immediate.ensures i;
+      aeth = c.has_aeth-aeth.ensures i;
+      payload = not (c.is_bare.ensures i);
+      first = c.is_first.ensures i;
+      last = c.is_last.ensures i;
+      request = leb op 12;
+      answer = not (leb op 12);
+    } in
+    ap Some row
+    ∙ ap (λ (o : ℕ). Some (row_of o)) c.from-op.ensures
+    ∙ sym (carries-known c.args.opcode (le-leb c.args.opcode 17 c.if-opcode-gt17.false))

@@ -1,8 +1,0 @@
-use Rattle.text.proofs.Putting.{put_then}
-use Rattle.answers.proofs.header.put_header.Goals as goal
-
-pub returns : goal.returns
-returns c =
-    put_then _ _ _
-    (put_then _ _ _ (put_then _ _ _ (put_then _ _ _ c.put-a.ensures c.put_numbers-b.ensures) c.put-c.ensures) c.put_hex-d.ensures)
-    c.put.ensures

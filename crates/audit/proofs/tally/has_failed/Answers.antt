@@ -1,8 +1,0 @@
--- `has_failed` meets its contract.
-use Rattle.rules.specs.Passes.Tables.{none_of}
-use mathlib.Core.Path.{refl}
-use Rattle.audit.proofs.tally.has_failed.Goals as goal
-
-pub returns : goal.returns
-unfolding none_of
-returns c = refl

@@ -1,7 +1,0 @@
--- `covers` meets its contract, from what its calls ensure.
-use Rattle.rules.specs.Passes.Tests.{◌and◌}
-use Rattle.message.proofs.packets.covers.Goals as goal
-
-pub returns : goal.returns
-unfolding ◌and◌
-returns c = cc
