@@ -1,6 +1,6 @@
 // One record of a lent table: read or written where it stands. Past the table's end all reads as 0, and nothing is written.
-// `slot_at` and `pair_at` stay two, as the definitions have them: each is one call of the library.
-ghost use Rattle.std.specs.Prelude.{◌≡◌};
+// `slot_at` and `pair_at` stay two, as the definitions have them: each is one call of `record_or`.
+ghost use Rattle.std.specs.Prelude.{◌≡◌, get_or};
 ghost use Rattle.rules.specs.Slots.{no_slot, no_pair, slot_at, pair_at, relinked};
 
 use rules::{Pair, Slot};
@@ -18,18 +18,25 @@ pub fn no_pair() -> Pair
     Pair::default()
 }
 
+// One record read, past the table's end what is given. lent's `look-any-meets` is the walk of it.
+fn record_or<T: Copy>(table: &[T], i: usize, none: T) -> T
+    ensures { result ≡ get_or table.now i none }
+{
+    if i < table.len() { table[i] } else { none }
+}
+
 #[tactic(auto, unfolding(rules::specs::Slots::slot_at))]
 pub fn slot_at(slots: &[Slot], i: usize) -> Slot
     ensures { result ≡ slot_at slots.now i }
 {
-    slots.get(i).copied().unwrap_or_default()
+    record_or(slots, i, no_slot())
 }
 
 #[tactic(auto, unfolding(rules::specs::Slots::pair_at))]
 pub fn pair_at(pairs: &[Pair], i: usize) -> Pair
     ensures { result ≡ pair_at pairs.now i }
 {
-    pairs.get(i).copied().unwrap_or_default()
+    record_or(pairs, i, no_pair())
 }
 
 // A slot's link is written, and nothing else of it.

@@ -10,21 +10,21 @@ use seplogic.Ra.Ura.{Ura}
 use mir.Syntax.{Callee, Place, Opd as Operand, Body, erased, named, seq, call, cond, skip, exit}
 use mir.Val.{Val, vbool}
 use base.Logic.{SProp, ent, sep, emp, ex, guard, id⊢, via, mono∗, mono_l, mono_r, emp∗, fst∗, snd∗}
-use base.Fml.{Lft, ftrue}
+use base.Fml.{Lft, ftrue, feq}
 use prog.Wp.{Env, Calls, Loops, eval_opds, exits}
 use types.Logic.{Logic, sem}
 use sound.WpLaws.{FmC}
 use contract.Monad.{fact, fact_use, top}
 use contract.Lifetimes.{Lfts, toks}
-use types.Kit.{Item, ‵, raw, ◌⊛◌, some, later, given, mean, ⋆, pop, push, ⊢++, ++⊢, Post, post, prop, Goal, Soaks, runs, lands, settles, aim, Seq, ◌$◌, ◌∵◌, !, qed, by, move, drop, use0, use1, use2, use3, split, join, learn, pick, fsplit, fjoin, frame, await, check, updating, now as at_once, show, done}
+use types.Kit.{Item, ‵, raw, ◌⊛◌, some, later, given, mean, ⋆, pop, push, ⊢++, ++⊢, Post, post, prop, Goal, Soaks, runs, lands, settles, aim, Seq, ◌$◌, ◌∵◌, !, qed, by, move, drop, use0, use1, use2, use3, split, join, learn, pick, fsplit, fjoin, feq_i, frame, await, check, updating, now as at_once, show, done}
 use types.Run.{Opd, Opds, first, branches, skips, jumps}
 use denote.RattleType.{RattleType, Denots, Valss, owns, flat}
 use denote.Laws.{Is, shows}
 use types.SemTy.{Body as Holds-at}
 use denote.Memory.{mem}
 use denote.Lend as Lend
-use denote.Ref.{MutRef}
-use denote.Slice.{MutSlice}
+use denote.Ref.{Bor, MutRef, ShrRef}
+use denote.Slice.{MutSlice, ShrSlice}
 use denote.Signature.{Slot, types_at}
 use denote.Steps.{only, heard, peeks}
 use denote.Triple.Statement.{Contract, Triple}
@@ -34,7 +34,7 @@ use denote.Triple.Spec.{triple_of}
 use denote.Triple.Clauses.{Ended, Clauses, Lasts, at_exit, lasts, closing}
 use denote.Triple.End.{Kepts, Fins, lasts_of}
 use Rattle.lent.proofs.Plain.{Plain, Fits, Values, FitsAll, machine, by_value, value-kepts, value-args, value-vals, value_owns}
-use Rattle.lent.proofs.Refs.{Ref, slice, cell, Locs, Helds, pointer, pointers, items, Alls, Tolds, gather, spread, tolds, slots, kepts, Sig, ref-args, ref-vals, ref-lasts, Marks, lifetimes, wholes, lent-ats, Keeps, Said, Saids, lends-all, backs-all}
+use Rattle.lent.proofs.Refs.{Ref, slice, cell, seen-slice, seen-cell, Locs, Helds, seen-at, pointer, pointers, items, Alls, Tolds, gather, spread, tolds, slots, kepts, Sig, ref-args, ref-vals, ref-lasts, Marks, lifetimes, portions, lent-ats, Keeps, Said, Saids, lends-all, backs-all}
 
 module _ {M : Type 1} {𝓤 : Ura M} (𝓛 : Logic 𝓤) where
   open 𝓛 use {A}
@@ -51,32 +51,55 @@ module _ {M : Type 1} {𝓤 : Ura M} (𝓛 : Logic 𝓤) where
     at-lifetime-ref : (R : RattleType) (x : (MutRef erased [] R).Denot) (vs : List Val) (ν : ℕ) (i : ℕ) (κ : Lft) → κ ≡ ν ∷ [] → ent 𝓤 (sem 𝓛 ((MutRef erased (ν ∷ []) R).own_val x vs)) (sem 𝓛 ((MutRef (named i) κ R).own_val x vs))
     at-lifetime-ref R x vs ν i κ e = subst (λ (κ' : Lft). ent 𝓤 (sem 𝓛 ((MutRef erased (ν ∷ []) R).own_val x vs)) (sem 𝓛 ((MutRef (named i) κ' R).own_val x vs))) (sym e) (id⊢ 𝓤 _)
 
-    enters : (rs : List Ref) (sel : Lfts n → Lfts (length rs)) (i : ℕ) (ls : Locs rs) (m : Marks rs) → sel κs ≡ lifetimes rs m → (xs : Helds rs) (a : Denots (types_at ps κs)) (vss : Valss (types_at ps κs))
+    at-own : (R : RattleType) (x : Bor (List R.Denot)) (vs : List Val) (κ₀ : Lft) (i : ℕ) (κ : Lft) → κ ≡ κ₀ → ent 𝓤 (sem 𝓛 ((ShrSlice erased κ₀ R).own_val x vs)) (sem 𝓛 ((ShrSlice (named i) κ R).own_val x vs))
+    at-own R x vs κ₀ i κ e = subst (λ (κ' : Lft). ent 𝓤 (sem 𝓛 ((ShrSlice erased κ₀ R).own_val x vs)) (sem 𝓛 ((ShrSlice (named i) κ' R).own_val x vs))) (sym e) (id⊢ 𝓤 _)
+
+    at-own-ref : (R : RattleType) (x : Bor R.Denot) (vs : List Val) (κ₀ : Lft) (i : ℕ) (κ : Lft) → κ ≡ κ₀ → ent 𝓤 (sem 𝓛 ((ShrRef erased κ₀ R).own_val x vs)) (sem 𝓛 ((ShrRef (named i) κ R).own_val x vs))
+    at-own-ref R x vs κ₀ i κ e = subst (λ (κ' : Lft). ent 𝓤 (sem 𝓛 ((ShrRef erased κ₀ R).own_val x vs)) (sem 𝓛 ((ShrRef (named i) κ' R).own_val x vs))) (sym e) (id⊢ 𝓤 _)
+
+    enters : (rs : List Ref) (sel : Lfts n → Lfts (length rs)) (i : ℕ) (ls : Locs rs) (m : Marks rs) → sel κs ≡ lifetimes rs ls m → (xs : Helds rs) (a : Denots (types_at ps κs)) (vss : Valss (types_at ps κs))
         → ent 𝓤 (sep 𝓤 (sem 𝓛 (Alls rs (lent-ats rs ls m) xs)) (sem 𝓛 (owns (types_at ps κs) a vss)))
-        (sep 𝓤 (toks 𝓛 (length rs) (lifetimes rs m) (wholes rs)) (sem 𝓛 (owns (types_at (slots rs sel i ps) κs) (ref-args κs ps ks rs sel i (lent-ats rs ls m) xs a) (ref-vals κs ps ks rs sel i (lent-ats rs ls m) vss))))
+        (sep 𝓤 (toks 𝓛 (length rs) (lifetimes rs ls m) (portions rs ls m)) (sem 𝓛 (owns (types_at (slots rs sel i ps) κs) (ref-args κs ps ks rs sel i (lent-ats rs ls m) xs a) (ref-vals κs ps ks rs sel i (lent-ats rs ls m) vss))))
     enters [] sel i ls m e xs a vss = id⊢ 𝓤 _
     enters (slice R ∷ rs) sel i ls m e xs a vss =
         qed 𝓛 (‵ (Alls (slice R ∷ rs) (lent-ats (slice R ∷ rs) ls m) xs) ∷ ‵ (owns (types_at ps κs) a vss) ∷ []) ∵ fsplit ! $ move ! (1 ∷ []) $ fsplit ! $ move ! (1 ∷ 3 ∷ []) $
-        use2 𝓛 (raw (toks 𝓛 (length rs) (lifetimes rs m.1) (wholes rs)) ⊛ ‵ (owns (types_at (slots rs (λ κs. (sel κs).1) (suc i) ps) κs) (ref-args κs ps ks rs (λ κs. (sel κs).1) (suc i) (lent-ats rs ls.1 m.1) xs.1 a) (ref-vals κs ps ks rs (λ κs. (sel κs).1) (suc i) (lent-ats rs ls.1 m.1) vss)))
+        use2 𝓛 (raw (toks 𝓛 (length rs) (lifetimes rs ls.1 m.1) (portions rs ls.1 m.1)) ⊛ ‵ (owns (types_at (slots rs (λ κs. (sel κs).1) (suc i) ps) κs) (ref-args κs ps ks rs (λ κs. (sel κs).1) (suc i) (lent-ats rs ls.1 m.1) xs.1 a) (ref-vals κs ps ks rs (λ κs. (sel κs).1) (suc i) (lent-ats rs ls.1 m.1) vss)))
         (enters rs (λ κs. (sel κs).1) (suc i) ls.1 m.1 (ap (λ (t : Lfts (length (slice R ∷ rs))). t.1) e) xs.1 a vss) $ split ! $ move ! (2 ∷ 0 ∷ []) $ join ! $ frame ! $ move ! (1 ∷ []) $
         use1 𝓛 (‵ ((MutSlice (named i) (sel κs).0 R).own_val (record { ref_ptr = (ls.0.b, ls.0.o); ghost_name = m.0.1; now = xs.0 }) (pointer (slice R) ls.0 ∷ []))) (at-lifetime R (record { ref_ptr = (ls.0.b, ls.0.o); ghost_name = m.0.1; now = xs.0 }) _ m.0.0 i (sel κs).0 (ap (λ (t : Lfts (length (slice R ∷ rs))). t.0) e)) $ fjoin ! $ done !
     enters (cell R ∷ rs) sel i ls m e xs a vss =
         qed 𝓛 (‵ (Alls (cell R ∷ rs) (lent-ats (cell R ∷ rs) ls m) xs) ∷ ‵ (owns (types_at ps κs) a vss) ∷ []) ∵ fsplit ! $ move ! (1 ∷ []) $ fsplit ! $ move ! (1 ∷ 3 ∷ []) $
-        use2 𝓛 (raw (toks 𝓛 (length rs) (lifetimes rs m.1) (wholes rs)) ⊛ ‵ (owns (types_at (slots rs (λ κs. (sel κs).1) (suc i) ps) κs) (ref-args κs ps ks rs (λ κs. (sel κs).1) (suc i) (lent-ats rs ls.1 m.1) xs.1 a) (ref-vals κs ps ks rs (λ κs. (sel κs).1) (suc i) (lent-ats rs ls.1 m.1) vss)))
+        use2 𝓛 (raw (toks 𝓛 (length rs) (lifetimes rs ls.1 m.1) (portions rs ls.1 m.1)) ⊛ ‵ (owns (types_at (slots rs (λ κs. (sel κs).1) (suc i) ps) κs) (ref-args κs ps ks rs (λ κs. (sel κs).1) (suc i) (lent-ats rs ls.1 m.1) xs.1 a) (ref-vals κs ps ks rs (λ κs. (sel κs).1) (suc i) (lent-ats rs ls.1 m.1) vss)))
         (enters rs (λ κs. (sel κs).1) (suc i) ls.1 m.1 (ap (λ (t : Lfts (length (cell R ∷ rs))). t.1) e) xs.1 a vss) $ split ! $ move ! (2 ∷ 0 ∷ []) $ join ! $ frame ! $ move ! (1 ∷ []) $
         use1 𝓛 (‵ ((MutRef (named i) (sel κs).0 R).own_val (record { ref_ptr = (ls.0.b, ls.0.o); ghost_name = m.0.1; now = xs.0 }) (pointer (cell R) ls.0 ∷ []))) (at-lifetime-ref R (record { ref_ptr = (ls.0.b, ls.0.o); ghost_name = m.0.1; now = xs.0 }) _ m.0.0 i (sel κs).0 (ap (λ (t : Lfts (length (cell R ∷ rs))). t.0) e)) $ fjoin ! $ done !
+    enters (seen-slice R L ∷ rs) sel i ls m e xs a vss =
+        qed 𝓛 (‵ (Alls (seen-slice R L ∷ rs) (lent-ats (seen-slice R L ∷ rs) ls m) xs) ∷ ‵ (owns (types_at ps κs) a vss) ∷ []) ∵ fsplit ! $ move ! (1 ∷ []) $ fsplit ! $ move ! (1 ∷ 3 ∷ []) $
+        use2 𝓛 (raw (toks 𝓛 (length rs) (lifetimes rs ls.1 m.1) (portions rs ls.1 m.1)) ⊛ ‵ (owns (types_at (slots rs (λ κs. (sel κs).1) (suc i) ps) κs) (ref-args κs ps ks rs (λ κs. (sel κs).1) (suc i) (lent-ats rs ls.1 m.1) xs.1 a) (ref-vals κs ps ks rs (λ κs. (sel κs).1) (suc i) (lent-ats rs ls.1 m.1) vss)))
+        (enters rs (λ κs. (sel κs).1) (suc i) ls.1 m.1 (ap (λ (t : Lfts (length (seen-slice R L ∷ rs))). t.1) e) xs.1 a vss) $ split ! $ move ! (2 ∷ 0 ∷ []) $ join ! $ frame ! $ move ! (1 ∷ []) $
+        use1 𝓛 (‵ ((ShrSlice (named i) (sel κs).0 R).own_val (seen-at ls.0 xs.0) (pointer (seen-slice R L) ls.0 ∷ []))) (at-own R (seen-at ls.0 xs.0) _ ls.0.κ i (sel κs).0 (ap (λ (t : Lfts (length (seen-slice R L ∷ rs))). t.0) e)) $ fjoin ! $ done !
+    enters (seen-cell R L ∷ rs) sel i ls m e xs a vss =
+        qed 𝓛 (‵ (Alls (seen-cell R L ∷ rs) (lent-ats (seen-cell R L ∷ rs) ls m) xs) ∷ ‵ (owns (types_at ps κs) a vss) ∷ []) ∵ fsplit ! $ move ! (1 ∷ []) $ fsplit ! $ move ! (1 ∷ 3 ∷ []) $
+        use2 𝓛 (raw (toks 𝓛 (length rs) (lifetimes rs ls.1 m.1) (portions rs ls.1 m.1)) ⊛ ‵ (owns (types_at (slots rs (λ κs. (sel κs).1) (suc i) ps) κs) (ref-args κs ps ks rs (λ κs. (sel κs).1) (suc i) (lent-ats rs ls.1 m.1) xs.1 a) (ref-vals κs ps ks rs (λ κs. (sel κs).1) (suc i) (lent-ats rs ls.1 m.1) vss)))
+        (enters rs (λ κs. (sel κs).1) (suc i) ls.1 m.1 (ap (λ (t : Lfts (length (seen-cell R L ∷ rs))). t.1) e) xs.1 a vss) $ split ! $ move ! (2 ∷ 0 ∷ []) $ join ! $ frame ! $ move ! (1 ∷ []) $
+        use1 𝓛 (‵ ((ShrRef (named i) (sel κs).0 R).own_val (seen-at ls.0 xs.0) (pointer (seen-cell R L) ls.0 ∷ []))) (at-own-ref R (seen-at ls.0 xs.0) _ ls.0.κ i (sel κs).0 (ap (λ (t : Lfts (length (seen-cell R L ∷ rs))). t.0) e)) $ fjoin ! $ done !
+
+    equal : (X : Type 0) (x : X) → ent 𝓤 (emp 𝓤) (sem 𝓛 (feq X x x))
+    equal X x = qed 𝓛 [] ∵ feq_i ! X x x refl $ done !
 
     -- what a clause says at exit: the borrow that comes with a last value is let go, as the lender waits for the lifetime's end
     says_of : (rs : List Ref) (sel : Lfts n → Lfts (length rs)) (i : ℕ) (ls : Locs rs) (m : Marks rs) (xs : Helds rs) (a : Denots (types_at ps κs)) (ws : Fins κs (slots rs sel i ps) (kepts rs sel i ps ks) (ref-args κs ps ks rs sel i (lent-ats rs ls m) xs a))
         → ent 𝓤 (sem 𝓛 (lasts_of κs (slots rs sel i ps) (kepts rs sel i ps ks) (ref-args κs ps ks rs sel i (lent-ats rs ls m) xs a) ws)) (sem 𝓛 (Saids rs m xs (ref-lasts κs ps ks rs sel i (ref-args κs ps ks rs sel i (lent-ats rs ls m) xs a) ws)))
     says_of [] sel i ls m xs a ws = top 𝓤 _
-    says_of (slice R ∷ rs) sel i ls m xs a ws = mono∗ 𝓤 (fst∗ 𝓤 (sem 𝓛 (Said (slice R) m.0.1 xs.0 ws.0)) (A.bor (sel κs).0 (Lend.Held R (length xs.0) ls.0.b ls.0.o m.0.1))) (says_of rs (λ κs. (sel κs).1) (suc i) ls.1 m.1 xs.1 a ws.1)
-    says_of (cell R ∷ rs) sel i ls m xs a ws = mono∗ 𝓤 (fst∗ 𝓤 (sem 𝓛 (Said (cell R) m.0.1 xs.0 ws.0)) (A.bor (sel κs).0 (Holds-at (mem R) ls.0.b ls.0.o m.0.1))) (says_of rs (λ κs. (sel κs).1) (suc i) ls.1 m.1 xs.1 a ws.1)
+    says_of (slice R ∷ rs) sel i ls m xs a ws = mono∗ 𝓤 (fst∗ 𝓤 (sem 𝓛 (Said (slice R) m.0 xs.0 ws.0)) (A.bor (sel κs).0 (Lend.Held R (length xs.0) ls.0.b ls.0.o m.0.1))) (says_of rs (λ κs. (sel κs).1) (suc i) ls.1 m.1 xs.1 a ws.1)
+    says_of (cell R ∷ rs) sel i ls m xs a ws = mono∗ 𝓤 (fst∗ 𝓤 (sem 𝓛 (Said (cell R) m.0 xs.0 ws.0)) (A.bor (sel κs).0 (Holds-at (mem R) ls.0.b ls.0.o m.0.1))) (says_of rs (λ κs. (sel κs).1) (suc i) ls.1 m.1 xs.1 a ws.1)
+    says_of (seen-slice R L ∷ rs) sel i ls m xs a ws = mono∗ 𝓤 (equal (List R.Denot) xs.0) (says_of rs (λ κs. (sel κs).1) (suc i) ls.1 m.1 xs.1 a ws.1)
+    says_of (seen-cell R L ∷ rs) sel i ls m xs a ws = mono∗ 𝓤 (equal R.Denot xs.0) (says_of rs (λ κs. (sel κs).1) (suc i) ls.1 m.1 xs.1 a ws.1)
 
     passes-as : (rs : List Ref) (sel : Lfts n → Lfts (length rs)) (i : ℕ) (ls : Locs rs) (m : Marks rs) (vss : Valss (types_at ps κs)) → flat (types_at (slots rs sel i ps) κs) (ref-vals κs ps ks rs sel i (lent-ats rs ls m) vss) ≡ pointers rs ls ++ flat (types_at ps κs) vss
     passes-as [] sel i ls m vss = refl
     passes-as (slice R ∷ rs) sel i ls m vss = ap (λ (vs : List Val). pointer (slice R) ls.0 ∷ vs) (passes-as rs (λ κs. (sel κs).1) (suc i) ls.1 m.1 vss)
     passes-as (cell R ∷ rs) sel i ls m vss = ap (λ (vs : List Val). pointer (cell R) ls.0 ∷ vs) (passes-as rs (λ κs. (sel κs).1) (suc i) ls.1 m.1 vss)
+    passes-as (seen-slice R L ∷ rs) sel i ls m vss = ap (λ (vs : List Val). pointer (seen-slice R L) ls.0 ∷ vs) (passes-as rs (λ κs. (sel κs).1) (suc i) ls.1 m.1 vss)
+    passes-as (seen-cell R L ∷ rs) sel i ls m vss = ap (λ (vs : List Val). pointer (seen-cell R L) ls.0 ∷ vs) (passes-as rs (λ κs. (sel κs).1) (suc i) ls.1 m.1 vss)
 
 flat-values : (n : ℕ) (κs : Lfts n) (ps : List Plain) (a : Values ps) → flat (types_at (by_value n ps) κs) (value-vals n κs ps a) ≡ machine ps a
 flat-values n κs [] a = refl
@@ -120,16 +143,16 @@ module _ {M : Type 1} {𝓤 : Ura M} (𝓛 : Logic 𝓤) (C : Calls 𝓤 𝓛.H)
   abbrev n : ℕ
   n = length rs
 
-  abbrev pub passed : (m : Marks rs) → Args (Sig rs ps res).signature (lifetimes rs m)
-  passed m = ref-args (lifetimes rs m) (by_value n ps) (value-kepts n ps) rs (λ κs. κs) 0 (lent-ats rs ls m) xs (value-args n (lifetimes rs m) ps a)
+  abbrev pub passed : (m : Marks rs) → Args (Sig rs ps res).signature (lifetimes rs ls m)
+  passed m = ref-args (lifetimes rs ls m) (by_value n ps) (value-kepts n ps) rs (λ κs. κs) 0 (lent-ats rs ls m) xs (value-args n (lifetimes rs ls m) ps a)
 
-  abbrev pub lasts-in : (m : Marks rs) → Lasts (Sig rs ps res) (lifetimes rs m) (passed m) → Helds rs
-  lasts-in m ws = ref-lasts (lifetimes rs m) (by_value n ps) (value-kepts n ps) rs (λ κs. κs) 0 (passed m) ws
+  abbrev pub lasts-in : (m : Marks rs) → Lasts (Sig rs ps res) (lifetimes rs ls m) (passed m) → Helds rs
+  lasts-in m ws = ref-lasts (lifetimes rs ls m) (by_value n ps) (value-kepts n ps) rs (λ κs. κs) 0 (passed m) ws
 
-  module _ (g : (m : Marks rs) → (c (lifetimes rs m) (passed m)).ghost) (req : (m : Marks rs) → ent 𝓤 (emp 𝓤) ((c (lifetimes rs m) (passed m)).requires (g m))) (φ : res.of.Denot → Helds rs → Type 0)
-      (told : (m : Marks rs) (r : res.of.Denot) (ws : Lasts (Sig rs ps res) (lifetimes rs m) (passed m)) → ent 𝓤 ((c (lifetimes rs m) (passed m)).ensures (g m) r (at_exit (Sig rs ps res) (lifetimes rs m) (passed m) ws)) (fact 𝓤 (φ r (lasts-in m ws)))) where
+  module _ (g : (m : Marks rs) → (c (lifetimes rs ls m) (passed m)).ghost) (req : (m : Marks rs) → ent 𝓤 (emp 𝓤) ((c (lifetimes rs ls m) (passed m)).requires (g m))) (φ : res.of.Denot → Helds rs → Type 0)
+      (told : (m : Marks rs) (r : res.of.Denot) (ws : Lasts (Sig rs ps res) (lifetimes rs ls m) (passed m)) → ent 𝓤 ((c (lifetimes rs ls m) (passed m)).ensures (g m) r (at_exit (Sig rs ps res) (lifetimes rs ls m) (passed m) ws)) (fact 𝓤 (φ r (lasts-in m ws)))) where
     abbrev y : (m : Marks rs) → (Ctr 𝓛 (Sig rs ps res) c).Ghost
-    y m = ((lifetimes rs m, wholes rs, tt, passed m, ref-vals (lifetimes rs m) (by_value n ps) (value-kepts n ps) rs (λ κs. κs) 0 (lent-ats rs ls m) (value-vals n (lifetimes rs m) ps a)), g m)
+    y m = ((lifetimes rs ls m, portions rs ls m, tt, passed m, ref-vals (lifetimes rs ls m) (by_value n ps) (value-kepts n ps) rs (λ κs. κs) 0 (lent-ats rs ls m) (value-vals n (lifetimes rs ls m) ps a)), g m)
 
     abbrev Came : Val → res.of.Denot → Helds rs → Type 0
     Came u r zs = ((u ≡ res.val r) × Fits res r) × φ r zs
@@ -142,21 +165,21 @@ module _ {M : Type 1} {𝓤 : Ura M} (𝓛 : Logic 𝓤) (C : Calls 𝓤 𝓛.H)
 
     returned : (m : Marks rs) → Tolds rs ls xs → (u : Val) → ent 𝓤 (sep 𝓤 ((Ctr 𝓛 (Sig rs ps res) c).post (y m) u) (sem 𝓛 (Keeps rs ls m xs))) (Aft u)
     returned m p u =
-        qed 𝓛 (later (some (λ (r : res.of.Denot). (raw (toks 𝓛 n (lifetimes rs m) (wholes rs)) ⊛ ‵ (res.of.own_val r (u ∷ []))) ⊛ some (λ (ws : Lasts (Sig rs ps res) (lifetimes rs m) (passed m)). ‵ (lasts (Sig rs ps res) (lifetimes rs m) (passed m) ws) ⊛ raw ((c (lifetimes rs m) (passed m)).ensures (g m) r (at_exit (Sig rs ps res) (lifetimes rs m) (passed m) ws))))) ∷ ‵ (Keeps rs ls m xs) ∷ []) ∵ updating ! $
+        qed 𝓛 (later (some (λ (r : res.of.Denot). (raw (toks 𝓛 n (lifetimes rs ls m) (portions rs ls m)) ⊛ ‵ (res.of.own_val r (u ∷ []))) ⊛ some (λ (ws : Lasts (Sig rs ps res) (lifetimes rs ls m) (passed m)). ‵ (lasts (Sig rs ps res) (lifetimes rs ls m) (passed m) ws) ⊛ raw ((c (lifetimes rs ls m) (passed m)).ensures (g m) r (at_exit (Sig rs ps res) (lifetimes rs ls m) (passed m) ws))))) ∷ ‵ (Keeps rs ls m xs) ∷ []) ∵ updating ! $
         await ! tt $ pick ! (λ r. split ! $ move ! (1 ∷ []) $ pick ! (λ ws. split ! $ move ! (1 ∷ []) $ use1 𝓛 (raw (fact 𝓤 (φ r (lasts-in m ws)))) (told m r ws) $ heard ! (φ r (lasts-in m ws)) (λ f. move ! (1 ∷ []) $ split ! $ move ! (1 ∷ []) $
         peeks ! res.of (Is res.of) (shows 𝓛 res.of) r (u ∷ []) (λ is. drop ! $
         -- [the tokens; what is said; what is kept]
-        move ! (1 ∷ []) $ use1 𝓛 (‵ (Saids rs m xs (lasts-in m ws))) (says_of 𝓛 (lifetimes rs m) (by_value n ps) (value-kepts n ps) rs (λ κs. κs) 0 ls m xs (value-args n (lifetimes rs m) ps a) ws) $ move ! (1 ∷ 2 ∷ 0 ∷ []) $
+        move ! (1 ∷ []) $ use1 𝓛 (‵ (Saids rs m xs (lasts-in m ws))) (says_of 𝓛 (lifetimes rs ls m) (by_value n ps) (value-kepts n ps) rs (λ κs. κs) 0 ls m xs (value-args n (lifetimes rs ls m) ps a) ws) $ move ! (1 ∷ 2 ∷ 0 ∷ []) $
         use3 𝓛 (later (‵ (Alls rs ls (lasts-in m ws)))) (backs-all 𝓛 rs ls m xs (lasts-in m ws) p) $ await ! tt $ at_once ! $
         show ! (λ (r : res.of.Denot). ex 𝓤 (λ (zs : Helds rs). guard 𝓤 (Came u r zs) (sem 𝓛 (Alls rs ls zs)))) r $ show ! (λ (zs : Helds rs). guard 𝓤 (Came u r zs) (sem 𝓛 (Alls rs ls zs))) (lasts-in m ws) $ check ! (fits-of u r is, f) $ done !))))
 
     pub lent : (m : Marks rs) → Tolds rs ls xs → ent 𝓤 (sep 𝓤 (sem 𝓛 (Alls rs (lent-ats rs ls m) xs)) (sem 𝓛 (Keeps rs ls m xs))) (C k (pointers rs ls ++ machine ps a) Aft)
     lent m p = subst (λ (vs : List Val). ent 𝓤 (sep 𝓤 (sem 𝓛 (Alls rs (lent-ats rs ls m) xs)) (sem 𝓛 (Keeps rs ls m xs))) (C k vs Aft))
-        (passes-as 𝓛 (lifetimes rs m) (by_value n ps) (value-kepts n ps) rs (λ κs. κs) 0 ls m (value-vals n (lifetimes rs m) ps a) ∙ ap (λ (vs : List Val). pointers rs ls ++ vs) (flat-values n (lifetimes rs m) ps a))
+        (passes-as 𝓛 (lifetimes rs ls m) (by_value n ps) (value-kepts n ps) rs (λ κs. κs) 0 ls m (value-vals n (lifetimes rs ls m) ps a) ∙ ap (λ (vs : List Val). pointers rs ls ++ vs) (flat-values n (lifetimes rs ls m) ps a))
         (via 𝓤 (sep 𝓤 ((Ctr 𝓛 (Sig rs ps res) c).pre (y m)) (sem 𝓛 (Keeps rs ls m xs)))
-        (mono_l 𝓤 (sem 𝓛 (Keeps rs ls m xs)) (qed 𝓛 (‵ (Alls rs (lent-ats rs ls m) xs) ∷ []) ∵ use0 𝓛 (‵ (owns (types_at (by_value n ps) (lifetimes rs m)) (value-args n (lifetimes rs m) ps a) (value-vals n (lifetimes rs m) ps a))) (value_owns n (lifetimes rs m) 𝓛 ps a fits) $ move ! (1 ∷ 0 ∷ []) $
-        use2 𝓛 (raw (toks 𝓛 n (lifetimes rs m) (wholes rs)) ⊛ ‵ (owns (types_at (slots rs (λ κs. κs) 0 (by_value n ps)) (lifetimes rs m)) (passed m) (ref-vals (lifetimes rs m) (by_value n ps) (value-kepts n ps) rs (λ κs. κs) 0 (lent-ats rs ls m) (value-vals n (lifetimes rs m) ps a))))
-        (enters 𝓛 (lifetimes rs m) (by_value n ps) (value-kepts n ps) rs (λ κs. κs) 0 ls m refl xs (value-args n (lifetimes rs m) ps a) (value-vals n (lifetimes rs m) ps a)) $ use0 𝓛 (raw ((c (lifetimes rs m) (passed m)).requires (g m))) (req m) $ move ! (1 ∷ 0 ∷ []) $ done !))
+        (mono_l 𝓤 (sem 𝓛 (Keeps rs ls m xs)) (qed 𝓛 (‵ (Alls rs (lent-ats rs ls m) xs) ∷ []) ∵ use0 𝓛 (‵ (owns (types_at (by_value n ps) (lifetimes rs ls m)) (value-args n (lifetimes rs ls m) ps a) (value-vals n (lifetimes rs ls m) ps a))) (value_owns n (lifetimes rs ls m) 𝓛 ps a fits) $ move ! (1 ∷ 0 ∷ []) $
+        use2 𝓛 (raw (toks 𝓛 n (lifetimes rs ls m) (portions rs ls m)) ⊛ ‵ (owns (types_at (slots rs (λ κs. κs) 0 (by_value n ps)) (lifetimes rs ls m)) (passed m) (ref-vals (lifetimes rs ls m) (by_value n ps) (value-kepts n ps) rs (λ κs. κs) 0 (lent-ats rs ls m) (value-vals n (lifetimes rs ls m) ps a))))
+        (enters 𝓛 (lifetimes rs ls m) (by_value n ps) (value-kepts n ps) rs (λ κs. κs) 0 ls m refl xs (value-args n (lifetimes rs ls m) ps a) (value-vals n (lifetimes rs ls m) ps a)) $ use0 𝓛 (raw ((c (lifetimes rs ls m) (passed m)).requires (g m))) (req m) $ move ! (1 ∷ 0 ∷ []) $ done !))
         (via 𝓤 (sep 𝓤 (C k ((Ctr 𝓛 (Sig rs ps res) c).args (y m)) ((Ctr 𝓛 (Sig rs ps res) c).post (y m))) (sem 𝓛 (Keeps rs ls m xs))) (mono_l 𝓤 (sem 𝓛 (Keeps rs ls m xs)) (known (y m)))
         (fm k ((Ctr 𝓛 (Sig rs ps res) c).args (y m)) ((Ctr 𝓛 (Sig rs ps res) c).post (y m)) Aft (sem 𝓛 (Keeps rs ls m xs)) (returned m p))))
 

@@ -5,8 +5,10 @@ pub mod Meets
 pub mod Frame
 pub mod Open
 pub mod Get
+pub mod Look
 pub mod Put
 pub mod Elem
+pub mod Shown
 pub mod Local
 pub mod Bag
 pub mod Chosen

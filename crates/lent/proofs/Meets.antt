@@ -7,17 +7,17 @@ use lib.ListN.{length}
 use seplogic.Ra.Ura.{Ura}
 use mir.Syntax.{named}
 use mir.Val.{Val}
-use base.Logic.{SProp, ent, sep, wand, emp, via, mono_l, fst∗, comm∗, apply∗, wand_i, ex_i}
+use base.Logic.{SProp, ent, sep, wand, emp, id⊢, via, mono_l, fst∗, comm∗, apply∗, wand_i, ex_i}
 use base.Fml.{ftrue, flft}
 use types.Logic.{Logic, sem}
 use contract.Monad.{Fun, Mono, fact_use, top}
 use contract.Lifetimes.{Lfts, Shares, toks}
-use types.Kit.{‵, raw, ◌⊛◌, some, later, given, ⋆, ◌$◌, ◌∵◌, !, qed, move, use0, use1, use2, split, join, learn, pick, fsplit, fjoin, frame, await, updating, now as at_once, show, done}
+use types.Kit.{‵, raw, ◌⊛◌, some, later, given, ⋆, ◌$◌, ◌∵◌, !, qed, move, drop, use0, use1, use2, split, join, learn, pick, fsplit, fjoin, frame, await, updating, now as at_once, show, done}
 use denote.RattleType.{Denots, owns, flat}
 use denote.Laws.{Ises, Are, Spells, Tellss, valss}
 use denote.Exit.{left, yes}
-use denote.Ref.{MutRef, mut_vals, mut_Tells}
-use denote.Slice.{MutSlice, mut_slice_vals, mut_slice_Tells}
+use denote.Ref.{MutRef, mut_vals, mut_Tells, shr_vals, shr_Tells}
+use denote.Slice.{MutSlice, mut_slice_vals, mut_slice_Tells, shr_slice_vals, shr_slice_Tells}
 use denote.Signature.{Slot, plain, types_at}
 use denote.Steps.{said}
 use denote.Triple.Entry.{Args, Vals, on_entry}
@@ -26,7 +26,7 @@ use denote.Triple.Clauses.{Ended, Clauses, Lasts, at_exit, lasts, ensured, closi
 use denote.Triple.End.{Kepts, Fins, lasts_of}
 use denote.Triple.Walked.{Goes-slice, Goes-ref}
 use Rattle.lent.proofs.Plain.{Plain, Fits, Values, FitsAll, machine, by_value, value-kepts, values_of, value-spells, value_tells, value-lasts, value-silent}
-use Rattle.lent.proofs.Refs.{Ref, slice, cell, Locs, Helds, pointer, pointers, items, Alls, Tolds, spread, tolds, slots, kepts, Sig, counted}
+use Rattle.lent.proofs.Refs.{Ref, slice, cell, seen-slice, seen-cell, Locs, Helds, pointer, pointers, items, Alls, Tolds, spread, tolds, slots, kepts, Sig, counted}
 use Rattle.lent.proofs.Does.{Ctr, After}
 
 -- ---- what a function is passed: the references' places and values, and the plain values
@@ -35,11 +35,15 @@ module _ {n : ℕ} (κs : Lfts n) (ps : List (Slot n)) where
   helds-of [] sel i a = tt
   helds-of (slice R ∷ rs) sel i a = (a.0.now, helds-of rs (λ κs. (sel κs).1) (suc i) a.1)
   helds-of (cell R ∷ rs) sel i a = (a.0.now, helds-of rs (λ κs. (sel κs).1) (suc i) a.1)
+  helds-of (seen-slice R L ∷ rs) sel i a = (a.0.now, helds-of rs (λ κs. (sel κs).1) (suc i) a.1)
+  helds-of (seen-cell R L ∷ rs) sel i a = (a.0.now, helds-of rs (λ κs. (sel κs).1) (suc i) a.1)
 
   abbrev locs-of : (rs : List Ref) (sel : Lfts n → Lfts (length rs)) (i : ℕ) → Shares (length rs) → Denots (types_at (slots rs sel i ps) κs) → Locs rs
   locs-of [] sel i qs a = tt
   locs-of (slice R ∷ rs) sel i qs a = (record { b = a.0.ref_ptr.0; o = a.0.ref_ptr.1; n = length a.0.now; γ = a.0.ghost_name; κ = (sel κs).0; q = qs.0 }, locs-of rs (λ κs. (sel κs).1) (suc i) qs.1 a.1)
   locs-of (cell R ∷ rs) sel i qs a = (record { b = a.0.ref_ptr.0; o = a.0.ref_ptr.1; n = 0; γ = a.0.ghost_name; κ = (sel κs).0; q = qs.0 }, locs-of rs (λ κs. (sel κs).1) (suc i) qs.1 a.1)
+  locs-of (seen-slice R L ∷ rs) sel i qs a = (record { b = a.0.ref_ptr.0; o = a.0.ref_ptr.1; n = length a.0.now; γ = 0; κ = (sel κs).0; q = qs.0 }, locs-of rs (λ κs. (sel κs).1) (suc i) qs.1 a.1)
+  locs-of (seen-cell R L ∷ rs) sel i qs a = (record { b = a.0.ref_ptr.0; o = a.0.ref_ptr.1; n = 0; γ = 0; κ = (sel κs).0; q = qs.0 }, locs-of rs (λ κs. (sel κs).1) (suc i) qs.1 a.1)
 
   abbrev rest-args : (rs : List Ref) (sel : Lfts n → Lfts (length rs)) (i : ℕ) → Denots (types_at (slots rs sel i ps) κs) → Denots (types_at ps κs)
   rest-args [] sel i a = a
@@ -49,29 +53,39 @@ module _ {n : ℕ} (κs : Lfts n) (ps : List (Slot n)) where
   ref-spells [] sel i sp = sp
   ref-spells (slice R ∷ rs) sel i sp = (mut_slice_vals, ref-spells rs (λ κs. (sel κs).1) (suc i) sp)
   ref-spells (cell R ∷ rs) sel i sp = (mut_vals, ref-spells rs (λ κs. (sel κs).1) (suc i) sp)
+  ref-spells (seen-slice R L ∷ rs) sel i sp = (shr_slice_vals, ref-spells rs (λ κs. (sel κs).1) (suc i) sp)
+  ref-spells (seen-cell R L ∷ rs) sel i sp = (shr_vals, ref-spells rs (λ κs. (sel κs).1) (suc i) sp)
 
   ref-tells : (rs : List Ref) (sel : Lfts n → Lfts (length rs)) (i : ℕ) (sp : Spells (types_at ps κs)) → Tellss (types_at ps κs) (Ises (types_at ps κs)) sp → Tellss (types_at (slots rs sel i ps) κs) (Ises (types_at (slots rs sel i ps) κs)) (ref-spells rs sel i sp)
   ref-tells [] sel i sp tl = tl
   ref-tells (slice R ∷ rs) sel i sp tl = (mut_slice_Tells (named i) (sel κs).0 R, ref-tells rs (λ κs. (sel κs).1) (suc i) sp tl)
   ref-tells (cell R ∷ rs) sel i sp tl = (mut_Tells (named i) (sel κs).0 R, ref-tells rs (λ κs. (sel κs).1) (suc i) sp tl)
+  ref-tells (seen-slice R L ∷ rs) sel i sp tl = (shr_slice_Tells (named i) (sel κs).0 R, ref-tells rs (λ κs. (sel κs).1) (suc i) sp tl)
+  ref-tells (seen-cell R L ∷ rs) sel i sp tl = (shr_Tells (named i) (sel κs).0 R, ref-tells rs (λ κs. (sel κs).1) (suc i) sp tl)
 
   rest-are : (rs : List Ref) (sel : Lfts n → Lfts (length rs)) (i : ℕ) (sp : Spells (types_at ps κs)) (a : Denots (types_at (slots rs sel i ps) κs)) → Are (types_at (slots rs sel i ps) κs) (Ises (types_at (slots rs sel i ps) κs)) a (valss (types_at (slots rs sel i ps) κs) (ref-spells rs sel i sp) a)
       → Are (types_at ps κs) (Ises (types_at ps κs)) (rest-args rs sel i a) (valss (types_at ps κs) sp (rest-args rs sel i a))
   rest-are [] sel i sp a are = are
   rest-are (slice R ∷ rs) sel i sp a are = rest-are rs (λ κs. (sel κs).1) (suc i) sp a.1 are.1
   rest-are (cell R ∷ rs) sel i sp a are = rest-are rs (λ κs. (sel κs).1) (suc i) sp a.1 are.1
+  rest-are (seen-slice R L ∷ rs) sel i sp a are = rest-are rs (λ κs. (sel κs).1) (suc i) sp a.1 are.1
+  rest-are (seen-cell R L ∷ rs) sel i sp a are = rest-are rs (λ κs. (sel κs).1) (suc i) sp a.1 are.1
 
   flat-as : (rs : List Ref) (sel : Lfts n → Lfts (length rs)) (i : ℕ) (qs : Shares (length rs)) (sp : Spells (types_at ps κs)) (a : Denots (types_at (slots rs sel i ps) κs))
       → flat (types_at (slots rs sel i ps) κs) (valss (types_at (slots rs sel i ps) κs) (ref-spells rs sel i sp) a) ≡ pointers rs (locs-of rs sel i qs a) ++ flat (types_at ps κs) (valss (types_at ps κs) sp (rest-args rs sel i a))
   flat-as [] sel i qs sp a = refl
   flat-as (slice R ∷ rs) sel i qs sp a = ap (λ (vs : List Val). pointer (slice R) (locs-of (slice R ∷ rs) sel i qs a).0 ∷ vs) (flat-as rs (λ κs. (sel κs).1) (suc i) qs.1 sp a.1)
   flat-as (cell R ∷ rs) sel i qs sp a = ap (λ (vs : List Val). pointer (cell R) (locs-of (cell R ∷ rs) sel i qs a).0 ∷ vs) (flat-as rs (λ κs. (sel κs).1) (suc i) qs.1 sp a.1)
+  flat-as (seen-slice R L ∷ rs) sel i qs sp a = ap (λ (vs : List Val). pointer (seen-slice R L) (locs-of (seen-slice R L ∷ rs) sel i qs a).0 ∷ vs) (flat-as rs (λ κs. (sel κs).1) (suc i) qs.1 sp a.1)
+  flat-as (seen-cell R L ∷ rs) sel i qs sp a = ap (λ (vs : List Val). pointer (seen-cell R L) (locs-of (seen-cell R L ∷ rs) sel i qs a).0 ∷ vs) (flat-as rs (λ κs. (sel κs).1) (suc i) qs.1 sp a.1)
 
   module _ (ks : Kepts ps) where
     abbrev fins-of : (rs : List Ref) (sel : Lfts n → Lfts (length rs)) (i : ℕ) (a : Denots (types_at (slots rs sel i ps) κs)) → Helds rs → Fins κs ps ks (rest-args rs sel i a) → Fins κs (slots rs sel i ps) (kepts rs sel i ps ks) a
     fins-of [] sel i a zs ws = ws
     fins-of (slice R ∷ rs) sel i a zs ws = (zs.0, fins-of rs (λ κs. (sel κs).1) (suc i) a.1 zs.1 ws)
     fins-of (cell R ∷ rs) sel i a zs ws = (zs.0, fins-of rs (λ κs. (sel κs).1) (suc i) a.1 zs.1 ws)
+    fins-of (seen-slice R L ∷ rs) sel i a zs ws = (tt, fins-of rs (λ κs. (sel κs).1) (suc i) a.1 zs.1 ws)
+    fins-of (seen-cell R L ∷ rs) sel i a zs ws = (tt, fins-of rs (λ κs. (sel κs).1) (suc i) a.1 zs.1 ws)
 
     module _ {M : Type 1} {𝓤 : Ura M} (𝓛 : Logic 𝓤) where
       open 𝓛 use {H}
@@ -85,6 +99,14 @@ module _ {n : ℕ} (κs : Lfts n) (ps : List (Slot n)) where
           move ! (2 ∷ 0 ∷ []) $ fjoin ! $ move ! (1 ∷ 0 ∷ []) $ fjoin ! $ done !
       comes-in (cell R ∷ rs) sel i qs sp a =
           qed 𝓛 ((‵ (flft (sel κs).0 qs.0) ⊛ raw (toks 𝓛 (length rs) (sel κs).1 qs.1)) ∷ ‵ (owns (types_at (slots (cell R ∷ rs) sel i ps) κs) a (valss (types_at (slots (cell R ∷ rs) sel i ps) κs) (ref-spells (cell R ∷ rs) sel i sp) a)) ∷ []) ∵
+          split ! $ move ! (2 ∷ []) $ fsplit ! $ move ! (3 ∷ 1 ∷ []) $ use2 𝓛 (‵ (Alls rs (locs-of rs (λ κs. (sel κs).1) (suc i) qs.1 a.1) (helds-of rs (λ κs. (sel κs).1) (suc i) a.1))) (comes-in rs (λ κs. (sel κs).1) (suc i) qs.1 sp a.1) $
+          move ! (2 ∷ 0 ∷ []) $ fjoin ! $ move ! (1 ∷ 0 ∷ []) $ fjoin ! $ done !
+      comes-in (seen-slice R L ∷ rs) sel i qs sp a =
+          qed 𝓛 ((‵ (flft (sel κs).0 qs.0) ⊛ raw (toks 𝓛 (length rs) (sel κs).1 qs.1)) ∷ ‵ (owns (types_at (slots (seen-slice R L ∷ rs) sel i ps) κs) a (valss (types_at (slots (seen-slice R L ∷ rs) sel i ps) κs) (ref-spells (seen-slice R L ∷ rs) sel i sp) a)) ∷ []) ∵
+          split ! $ move ! (2 ∷ []) $ fsplit ! $ move ! (3 ∷ 1 ∷ []) $ use2 𝓛 (‵ (Alls rs (locs-of rs (λ κs. (sel κs).1) (suc i) qs.1 a.1) (helds-of rs (λ κs. (sel κs).1) (suc i) a.1))) (comes-in rs (λ κs. (sel κs).1) (suc i) qs.1 sp a.1) $
+          move ! (2 ∷ 0 ∷ []) $ fjoin ! $ move ! (1 ∷ 0 ∷ []) $ fjoin ! $ done !
+      comes-in (seen-cell R L ∷ rs) sel i qs sp a =
+          qed 𝓛 ((‵ (flft (sel κs).0 qs.0) ⊛ raw (toks 𝓛 (length rs) (sel κs).1 qs.1)) ∷ ‵ (owns (types_at (slots (seen-cell R L ∷ rs) sel i ps) κs) a (valss (types_at (slots (seen-cell R L ∷ rs) sel i ps) κs) (ref-spells (seen-cell R L ∷ rs) sel i sp) a)) ∷ []) ∵
           split ! $ move ! (2 ∷ []) $ fsplit ! $ move ! (3 ∷ 1 ∷ []) $ use2 𝓛 (‵ (Alls rs (locs-of rs (λ κs. (sel κs).1) (suc i) qs.1 a.1) (helds-of rs (λ κs. (sel κs).1) (suc i) a.1))) (comes-in rs (λ κs. (sel κs).1) (suc i) qs.1 sp a.1) $
           move ! (2 ∷ 0 ∷ []) $ fjoin ! $ move ! (1 ∷ 0 ∷ []) $ fjoin ! $ done !
 
@@ -103,6 +125,14 @@ module _ {n : ℕ} (κs : Lfts n) (ps : List (Slot n)) where
           use1 𝓛 (later (‵ (left ((MutRef (named i) (sel κs).0 R).exit yes) a.0 zs.0))) (Goes-ref 𝓛 1 0 tt (plain (λ _. R)) ((sel κs).0, tt) a.0 zs.0 _ tt) $ await ! tt $ move ! (1 ∷ []) $ fsplit ! $ move ! (1 ∷ []) $
           use1 𝓛 (later (raw (toks 𝓛 (length rs) (sel κs).1 qs.1) ⊛ ‵ (lasts_of κs (slots rs (λ κs. (sel κs).1) (suc i) ps) (kepts rs (λ κs. (sel κs).1) (suc i) ps ks) a.1 (fins-of rs (λ κs. (sel κs).1) (suc i) a.1 zs.1 ws)))) (goes-out rs (λ κs. (sel κs).1) (suc i) qs.1 a.1 zs.1 p.1 ws q) $ await ! tt $ split ! $ at_once ! $
           move ! (2 ∷ 0 ∷ []) $ join ! $ frame ! $ move ! (1 ∷ 0 ∷ []) $ fjoin ! $ done !
+      goes-out (seen-slice R L ∷ rs) sel i qs a zs p ws q =
+          qed 𝓛 (‵ (Alls (seen-slice R L ∷ rs) (locs-of (seen-slice R L ∷ rs) sel i qs a) zs) ∷ []) ∵ updating ! $ fsplit ! $ drop ! $ fsplit ! $ move ! (1 ∷ []) $
+          use1 𝓛 (later (raw (toks 𝓛 (length rs) (sel κs).1 qs.1) ⊛ ‵ (lasts_of κs (slots rs (λ κs. (sel κs).1) (suc i) ps) (kepts rs (λ κs. (sel κs).1) (suc i) ps ks) a.1 (fins-of rs (λ κs. (sel κs).1) (suc i) a.1 zs.1 ws)))) (goes-out rs (λ κs. (sel κs).1) (suc i) qs.1 a.1 zs.1 p.1 ws q) $ await ! tt $ split ! $ at_once ! $
+          move ! (2 ∷ 0 ∷ []) $ join ! $ frame ! $ use0 𝓛 (‵ ftrue) (id⊢ 𝓤 _) $ fjoin ! $ done !
+      goes-out (seen-cell R L ∷ rs) sel i qs a zs p ws q =
+          qed 𝓛 (‵ (Alls (seen-cell R L ∷ rs) (locs-of (seen-cell R L ∷ rs) sel i qs a) zs) ∷ []) ∵ updating ! $ fsplit ! $ drop ! $ fsplit ! $ move ! (1 ∷ []) $
+          use1 𝓛 (later (raw (toks 𝓛 (length rs) (sel κs).1 qs.1) ⊛ ‵ (lasts_of κs (slots rs (λ κs. (sel κs).1) (suc i) ps) (kepts rs (λ κs. (sel κs).1) (suc i) ps ks) a.1 (fins-of rs (λ κs. (sel κs).1) (suc i) a.1 zs.1 ws)))) (goes-out rs (λ κs. (sel κs).1) (suc i) qs.1 a.1 zs.1 p.1 ws q) $ await ! tt $ split ! $ at_once ! $
+          move ! (2 ∷ 0 ∷ []) $ join ! $ frame ! $ use0 𝓛 (‵ ftrue) (id⊢ 𝓤 _) $ fjoin ! $ done !
 
 -- the plain ones
 value-are : (n : ℕ) (κs : Lfts n) (ps : List Plain) (a : Denots (types_at (by_value n ps) κs)) → Are (types_at (by_value n ps) κs) (Ises (types_at (by_value n ps) κs)) a (valss (types_at (by_value n ps) κs) (value-spells n κs ps) a) → FitsAll ps (values_of n κs ps a)
