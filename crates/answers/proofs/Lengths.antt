@@ -16,13 +16,12 @@ use Rattle.text.specs.Out.{decimal_in}
 use Rattle.std.specs.Prelude.{Result, Ok, Err}
 use Rattle.refusal.specs.declared.Refusal.{Refusal}
 use Rattle.refusal.specs.Numbers.{number}
-use Rattle.wire.specs.declared.Written.{Written}
 use Rattle.wire.specs.declared.Frame.{Frame}
-use Rattle.wire.specs.Header.{write_of, bytes_of}
+use Rattle.wire.specs.Header.{write_of}
 use Rattle.wire.specs.Frame.{read_of}
 use Rattle.wire.proofs.Writing.{bytes_whole}
 use Rattle.answers.specs.Said.{numeral, spaced, line, refused_text, unread_text}
-use Rattle.answers.specs.Headers.{widest, within, header_of, written_text, write_text, fields_of, frame_text}
+use Rattle.answers.specs.Headers.{widest, within, header_of, size_text, written_text, write_text, fields_of, frame_text}
 use Rattle.answers.specs.Plain.{ask_text, text_of}
 
 -- ---- how long each piece is
@@ -58,26 +57,26 @@ hex-most (b ∷ bs) = omega (arith, lower-most (b ∷ bs))
 refused-most : (r : Refusal) → length (refused_text (number r)) ≤ 400
 refused-most r = omega (arith, line-most (bytes "refused") (number r ∷ []))
 
-written-most : (w : Result Written Refusal) → length (bytes_of w) ≡ 32 → length (written_text w) ≤ 400
-written-most (Err r) e = refused-most r
-written-most (Ok w) e =
-    let head = bytes "header" ++ spaced (w.length ∷ []) in
+size-most : (r : Result ℕ Refusal) (bs : List ℕ) → length bs ≡ 32 → length (size_text r bs) ≤ 400
+size-most (Err r) bs e = refused-most r
+size-most (Ok k) bs e =
+    let head = bytes "header" ++ spaced (k ∷ []) in
     omega (
       arith,
       e,
-      hex-most w.bytes,
-      spaced-most (w.length ∷ []),
-      length-append (bytes "header") (spaced (w.length ∷ [])),
+      hex-most bs,
+      spaced-most (k ∷ []),
+      length-append (bytes "header") (spaced (k ∷ [])),
       length-append head (bytes " "),
-      length-append (head ++ bytes " ") (hex_text w.bytes),
-      length-append (head ++ bytes " " ++ hex_text w.bytes) (bytes "\n"),
+      length-append (head ++ bytes " ") (hex_text bs),
+      length-append (head ++ bytes " " ++ hex_text bs) (bytes "\n"),
     )
 
 write-most : (a : List ℕ) → length (write_text a) ≤ 400
 write-most a = go (within 0 a widest)
   where
     go : (t : Bool) → length (cond t (written_text (write_of (header_of a))) (refused_text 3)) ≤ 400
-    go true = written-most (write_of (header_of a)) (bytes_whole (header_of a))
+    go true = size-most (write_of (header_of a)).size (write_of (header_of a)).bytes (bytes_whole (header_of a))
     go false = omega (arith, line-most (bytes "refused") (3 ∷ []))
 
 frame-most : (f : Result Frame Refusal) → length (frame_text f) ≤ 400

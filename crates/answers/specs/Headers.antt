@@ -39,9 +39,12 @@ header_of a =
       msn = get_or a 10 0;
     }
 
-abbrev pub written_text : Result Written Refusal → List ℕ
-written_text (Ok w) = bytes "header" ++ spaced (w.length ∷ []) ++ bytes " " ++ hex_text w.bytes ++ bytes "\n"
-written_text (Err r) = refused_text (number r)
+abbrev pub size_text : Result ℕ Refusal → List ℕ → List ℕ
+size_text (Ok k) bs = bytes "header" ++ spaced (k ∷ []) ++ bytes " " ++ hex_text bs ++ bytes "\n"
+size_text (Err r) bs = refused_text (number r)
+
+abbrev pub written_text : Written → List ℕ
+written_text w = size_text w.size w.bytes
 
 abbrev pub write_text : List ℕ → List ℕ
 write_text a = if within 0 a widest then written_text (write_of (header_of a)) else refused_text 3

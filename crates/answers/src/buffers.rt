@@ -1,5 +1,5 @@
 // What a call left in the two buffers: completions in the numbers, records in the bytes.
-ghost use Rattle.std.specs.Prelude.{◌≡◌, ◌*◌, ℕ, List, get_or, take, drop};
+ghost use Rattle.std.specs.Prelude.{◌≡◌, ◌*◌, ℕ, List, get_or, take, drop, length};
 ghost use Rattle.text.specs.Out.{Puts};
 ghost use Rattle.rules.specs.Emission.{record_bytes};
 ghost use Rattle.answers.specs.Replied.{joined, completion, record_line};
@@ -13,12 +13,14 @@ pub(crate) trait Items {
 
     fn put_item(&self, out: &mut Out, i: u32)
         ensures same { out.new.bytes.ghost_name ≡ out.old.bytes.ghost_name }
+        ensures long { length out.new.bytes.now ≡ length out.old.bytes.now }
         ensures after { Puts out.old.bytes.now out.old.at (text self.now i) out.new.bytes.now out.new.at };
 }
 
 // The first `count` items.
 pub(crate) fn put_items<T: Items>(out: &mut Out, items: &T, count: u32)
     ensures same { out.new.bytes.ghost_name ≡ out.old.bytes.ghost_name }
+    ensures long { length out.new.bytes.now ≡ length out.old.bytes.now }
     ensures after { Puts out.old.bytes.now out.old.at (joined (T.text items.now) count) out.new.bytes.now out.new.at }
 {
     for i in 0..count {

@@ -1,5 +1,5 @@
 // What a line answers that asks nothing of the tables.
-ghost use Rattle.std.specs.Prelude.{◌≡◌};
+ghost use Rattle.std.specs.Prelude.{◌≡◌, length};
 ghost use Rattle.text.specs.Out.{Puts};
 ghost use Rattle.text.specs.Text.{bytes};
 ghost use Rattle.answers.specs.Said.{unread_text};
@@ -11,6 +11,7 @@ use text::{Ask, Out, parse};
 
 pub fn put_unread(out: &mut Out, number: u64)
     ensures same { out.new.bytes.ghost_name ≡ out.old.bytes.ghost_name }
+    ensures long { length out.new.bytes.now ≡ length out.old.bytes.now }
     ensures after { Puts out.old.bytes.now out.old.at (unread_text number) out.new.bytes.now out.new.at }
 {
     put_line(out, b"unread", &[number]);
@@ -20,6 +21,7 @@ pub fn put_unread(out: &mut Out, number: u64)
 #[tactic(auto, using(crate::proofs::Rest::no_text, text::proofs::Frames::read_hex, text::proofs::Frames::read_fits), unfolding(text::specs::Out::put_all, crate::specs::Plain::text_of))]
 pub fn put_text(out: &mut Out, line: &[u8], number: u64)
     ensures same { out.new.bytes.ghost_name ≡ out.old.bytes.ghost_name }
+    ensures long { length out.new.bytes.now ≡ length out.old.bytes.now }
     ensures after { Puts out.old.bytes.now out.old.at (text_of line.now number) out.new.bytes.now out.new.at }
 {
     let parsed = parse(line);
@@ -34,6 +36,7 @@ pub fn put_text(out: &mut Out, line: &[u8], number: u64)
 // The end of a line that was put piece by piece.
 pub fn put_end(out: &mut Out)
     ensures same { out.new.bytes.ghost_name ≡ out.old.bytes.ghost_name }
+    ensures long { length out.new.bytes.now ≡ length out.old.bytes.now }
     ensures after { Puts out.old.bytes.now out.old.at (bytes "\n") out.new.bytes.now out.new.at }
 {
     out.put(b"\n");

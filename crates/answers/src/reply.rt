@@ -1,5 +1,5 @@
 // The text of a call's answer.
-ghost use Rattle.std.specs.Prelude.{◌≡◌};
+ghost use Rattle.std.specs.Prelude.{◌≡◌, length};
 ghost use Rattle.text.specs.Out.{Puts};
 ghost use Rattle.answers.specs.Replied.{word_text, place_text, answered_text, emitted_text, reply_text};
 
@@ -27,6 +27,7 @@ fn word(answer: Answer) -> &'static [u8]
 // A payload's place, behind the "done" of a response.
 fn put_place(out: &mut Out, what: Ask, answer: Answer, place: u32)
     ensures same { out.new.bytes.ghost_name ≡ out.old.bytes.ghost_name }
+    ensures long { length out.new.bytes.now ≡ length out.old.bytes.now }
     ensures after { Puts out.old.bytes.now out.old.at (place_text what answer place) out.new.bytes.now out.new.at }
 {
     if let (Ask::Response, Answer::Done) = (what, answer) {
@@ -44,6 +45,7 @@ fn put_answered(
     place: u32,
 )
     ensures same { out.new.bytes.ghost_name ≡ out.old.bytes.ghost_name }
+    ensures long { length out.new.bytes.now ≡ length out.old.bytes.now }
     ensures after { Puts out.old.bytes.now out.old.at (answered_text numbers.now what answer messages place) out.new.bytes.now out.new.at }
 {
     out.put(word(answer));
@@ -54,6 +56,7 @@ fn put_answered(
 
 fn put_emitted(out: &mut Out, bytes: &[u8], packets: u32)
     ensures same { out.new.bytes.ghost_name ≡ out.old.bytes.ghost_name }
+    ensures long { length out.new.bytes.now ≡ length out.old.bytes.now }
     ensures after { Puts out.old.bytes.now out.old.at (emitted_text bytes.now packets) out.new.bytes.now out.new.at }
 {
     put_line(out, b"emitted", &[u64::from(packets)]);
@@ -69,6 +72,7 @@ pub fn put_reply(
     reply: Result<Reply, Refusal>,
 )
     ensures same { out.new.bytes.ghost_name ≡ out.old.bytes.ghost_name }
+    ensures long { length out.new.bytes.now ≡ length out.old.bytes.now }
     ensures after { Puts out.old.bytes.now out.old.at (reply_text numbers.now bytes.now what reply) out.new.bytes.now out.new.at }
 {
     match reply {

@@ -1,5 +1,5 @@
 // What `show` and `free` write of a pair and of a slot.
-ghost use Rattle.std.specs.Prelude.{◌≡◌};
+ghost use Rattle.std.specs.Prelude.{◌≡◌, length};
 ghost use Rattle.text.specs.Out.{Puts};
 ghost use Rattle.answers.specs.Said.{numeral};
 ghost use Rattle.answers.specs.Shown.{shown_numbers, state_text, standing_text, part, member_text};
@@ -30,6 +30,7 @@ fn shown_numbers(p: Pair) -> [u64; 9]
 // A state that is none of the three is shown as closed.
 fn put_state(out: &mut Out, p: Pair)
     ensures same { out.new.bytes.ghost_name ≡ out.old.bytes.ghost_name }
+    ensures long { length out.new.bytes.now ≡ length out.old.bytes.now }
     ensures after { Puts out.old.bytes.now out.old.at (state_text p) out.new.bytes.now out.new.at }
 {
     match State::try_from(p.standing.state) {
@@ -48,6 +49,7 @@ fn put_state(out: &mut Out, p: Pair)
 // A pair as far as its packets, with no newline.
 pub fn put_standing(out: &mut Out, pair: u32, p: Pair)
     ensures same { out.new.bytes.ghost_name ≡ out.old.bytes.ghost_name }
+    ensures long { length out.new.bytes.now ≡ length out.old.bytes.now }
     ensures after { Puts out.old.bytes.now out.old.at (standing_text pair p) out.new.bytes.now out.new.at }
 {
     out.put(b"pair");
@@ -57,6 +59,7 @@ pub fn put_standing(out: &mut Out, pair: u32, p: Pair)
 
 fn put_part(out: &mut Out, n: u32)
     ensures same { out.new.bytes.ghost_name ≡ out.old.bytes.ghost_name }
+    ensures long { length out.new.bytes.now ≡ length out.old.bytes.now }
     ensures after { Puts out.old.bytes.now out.old.at (part n) out.new.bytes.now out.new.at }
 {
     out.put(b"/");
@@ -66,6 +69,7 @@ fn put_part(out: &mut Out, n: u32)
 // A packet that a pair holds, with a space before it.
 pub fn put_member(out: &mut Out, slot: u32, s: Slot)
     ensures same { out.new.bytes.ghost_name ≡ out.old.bytes.ghost_name }
+    ensures long { length out.new.bytes.now ≡ length out.old.bytes.now }
     ensures after { Puts out.old.bytes.now out.old.at (member_text slot s) out.new.bytes.now out.new.at }
 {
     put_number(out, u64::from(slot));
@@ -78,6 +82,7 @@ pub fn put_member(out: &mut Out, slot: u32, s: Slot)
 // A slot's number with a space before it.
 pub fn put_slot(out: &mut Out, slot: u32)
     ensures same { out.new.bytes.ghost_name ≡ out.old.bytes.ghost_name }
+    ensures long { length out.new.bytes.now ≡ length out.old.bytes.now }
     ensures after { Puts out.old.bytes.now out.old.at (numeral slot) out.new.bytes.now out.new.at }
 {
     put_number(out, u64::from(slot));

@@ -31,6 +31,10 @@ pub or-any : (t : Bool) → t || true ≡ true
 or-any true = refl
 or-any false = refl
 
+pub or-none : (t : Bool) → t || false ≡ t
+or-none true = refl
+or-none false = refl
+
 -- where both of two hold, each does
 pub and_left : (s t : Bool) → s && t ≡ true → s ≡ true
 and_left true t e = refl

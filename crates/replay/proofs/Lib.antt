@@ -1,3 +1,4 @@
+mod Past
 mod Rest
 pub mod Less
 mod Listing

@@ -4,7 +4,7 @@ use Rattle.psn.specs.Psn.{distance, plus, before}
 use Rattle.wire.specs.declared.Header.{Header}
 use Rattle.wire.specs.Bytes.{bytes}
 use Rattle.wire.specs.Opcodes.{header_length}
-use Rattle.wire.specs.Header.{header_bytes, write_of, bytes_of}
+use Rattle.wire.specs.Header.{header_bytes, write_of}
 use Rattle.rules.specs.declared.Packet.{Packet}
 use Rattle.rules.specs.declared.Settings.{Settings}
 use Rattle.rules.specs.declared.Standing.{Standing}
@@ -91,7 +91,7 @@ record_bytes = header_bytes + 4 * 4
 abbrev pub emission : Standing → Packet → List ℕ
 emission t p =
     let q = sent t p in
-    bytes_of (write_of (header_of t.settings q)) ++ bytes 4 (header_length q.opcode) ++ bytes 4 q.ticket ++ bytes 4 q.offset ++ bytes 4 q.length
+    (write_of (header_of t.settings q)).bytes ++ bytes 4 (header_length q.opcode) ++ bytes 4 q.ticket ++ bytes 4 q.offset ++ bytes 4 q.length
 
 abbrev pub emissions : Standing → List Packet → List ℕ
 emissions t [] = []

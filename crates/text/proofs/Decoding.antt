@@ -43,7 +43,7 @@ digits_of (a ∷ b ∷ w) l e = and_right _ _ (rw (and_none (eqb a 45)) at e)
 pub value-is : (w : List ℕ) (k : ℕ) → is_hex w ≡ true → 2 ≤ length w → k < length w → unwrap_or (nibble (get_or w k 0)) 0 ≡ value (get_or w k 0)
 value-is w k e l h = sure (nibble (get_or w k 0)) (digit-at w k (digits_of w l e) h)
 
-octets-at : (w : List ℕ) (i : ℕ) → 2 * i + 1 < length w
+pub octets-at : (w : List ℕ) (i : ℕ) → 2 * i + 1 < length w
     → get_or (octets w) i 0 ≡ value (get_or w (2 * i) 0) * 16 + value (get_or w (2 * i + 1) 0)
 unfolding octets
 octets-at [] i h = absurd (not-suc-le-zero h)

@@ -38,7 +38,7 @@ pub emit-less : (s : List Slot) (x : Emitted) → 0 < x.work.left → (emit_turn
 emit-less s x l = omega arith
 
 -- where none is left, all stays as it is
-emit-none : (s : List Slot) (x : Emitted) → x.work.left ≡ 0 → emit s x ≡ x
+pub emit-none : (s : List Slot) (x : Emitted) → x.work.left ≡ 0 → emit s x ≡ x
 emit-none s x z = loop-done (λ (y : Emitted). y.work.left) (emit_turn s) (emit-less s) x z
 
 -- the packets of some slots

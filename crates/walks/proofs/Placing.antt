@@ -12,7 +12,7 @@ use Rattle.walks.specs.Acting.{placed}
 
 -- ---- where there is room, and where there is not
 
-placed-in : (at : ℕ) (new old : List ℕ) → at + length new ≤ length old → placed at new old ≡ take at old ++ new ++ drop (at + length new) old
+pub placed-in : (at : ℕ) (new old : List ℕ) → at + length new ≤ length old → placed at new old ≡ take at old ++ new ++ drop (at + length new) old
 unfolding placed
 placed-in at new old h = rw (le-leb (at + length new) (length old) h)
 

@@ -10,6 +10,7 @@ use Rattle.rules.specs.Message.{from}
 use Rattle.rules.specs.Slots.{slot_at}
 use Rattle.message.specs.Capped.{capped, cut}
 use Rattle.message.specs.Places.{place_at}
+use Rattle.refusal.proofs.Loop.{loop-done}
 use Rattle.walks.specs.declared.Moving.{Moving}
 use Rattle.walks.specs.declared.Joining.{Joining}
 use Rattle.walks.specs.Acting.{Joined, hung, move_step, join_turn, join}
@@ -17,7 +18,7 @@ use Rattle.walks.proofs.Hung.{hung_with, whole_is}
 use Rattle.walks.proofs.Moved.{Ready, Moved, along, less, moved}
 use Rattle.walks.proofs.Rear.{none}
 
-abbrev joining_of : Joined → Moving
+abbrev pub joining_of : Joined → Moving
 joining_of x = x.work.moving
 
 abbrev slots_of : Joined → List Slot
@@ -39,6 +40,9 @@ join-writes x = whole_is (joining_of x).at none (put_next x) (hung (joining_of x
 
 pub join-less : (x : Joined) → 0 < (joining_of x).left → (joining_of (join_turn x)).left < (joining_of x).left
 join-less = less joining_of slots_of put_next join_turn join-moves join-writes
+
+pub join-none : (x : Joined) → (joining_of x).left ≡ 0 → join x ≡ x
+join-none = loop-done (λ y. (joining_of y).left) join_turn join-less
 
 join-along : (k : ℕ) (x : Joined) → (joining_of x).left ≡ k → k ≤ x.work.total → along put_next join_turn k x ≡ map (packet_for x.work) (from (x.work.total - k) k)
 join-along zero x e h = refl

@@ -8,7 +8,8 @@ use lib.ListN.{length, replicate, length-append}
 use Rattle.refusal.proofs.Cases.{if-case}
 use Rattle.wire.specs.Bytes.{bytes}
 use Rattle.wire.specs.Opcodes.{header_length}
-use Rattle.wire.specs.Header.{header_bytes, write_of, bytes_of, length_of}
+use Rattle.wire.specs.Header.{header_bytes, write_of, length_of}
+use Rattle.wire.specs.declared.Written.{Written}
 use Rattle.wire.proofs.Bytes.{bytes-length}
 use Rattle.wire.proofs.Writing.{bytes_whole}
 use Rattle.rules.specs.declared.Packet.{Packet}
@@ -39,20 +40,20 @@ unfolding record_of
 record_is t p ok h f op =
     let q = sent t p in
     let same : q.opcode ≡ p.opcode = if-case (λ (x : Packet). x.opcode ≡ p.opcode) (is_read p) (λ _. refl) (λ _. refl) in
-    let long : length_of (write_of (header_of t.settings q)) ≡ header_length q.opcode = ap length_of h.whole ∙ ap header_length (sym same) in
+    let long : length_of (write_of (header_of t.settings q)).size ≡ header_length q.opcode = ap (λ (w : Written). length_of w.size) h.whole ∙ ap header_length (sym same) in
     ap₂ record_of (capped_same t.settings ok) (ap (λ (x : Standing). sent_by x p) (tidy-same t ok) ∙ sent-fits t p f op)
-    ∙ ap (λ (n : ℕ). bytes_of (write_of (header_of t.settings q)) ++ bytes 4 n ++ bytes 4 q.ticket ++ bytes 4 q.offset ++ bytes 4 q.length) long
+    ∙ ap (λ (n : ℕ). (write_of (header_of t.settings q)).bytes ++ bytes 4 n ++ bytes 4 q.ticket ++ bytes 4 q.offset ++ bytes 4 q.length) long
 
 -- the header, and each number behind what is there, are the record
 pub record-built : (s : Settings) (q : Packet) → let w = write_of (header_of s q) in
     placed (header_bytes + 12) (bytes 4 q.length) (placed (header_bytes + 8) (bytes 4 q.offset) (placed (header_bytes + 4) (bytes 4 q.ticket)
-    (placed header_bytes (bytes 4 (length_of w)) (bytes_of w ++ replicate 16 0))))
+    (placed header_bytes (bytes 4 (length_of w.size)) (w.bytes ++ replicate 16 0))))
     ≡ record_of s q
 unfolding record_of bytes
 record-built s q =
     let w = write_of (header_of s q) in
-    let head = bytes_of w in
-    let a = bytes 4 (length_of w) in
+    let head = w.bytes in
+    let a = bytes 4 (length_of w.size) in
     let b = bytes 4 q.ticket in
     let c = bytes 4 q.offset in
     let d = bytes 4 q.length in

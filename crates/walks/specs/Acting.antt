@@ -1,7 +1,7 @@
 -- The three walks that act: slots leave a pair for the free queue's end, slots from the free queue's front join a pair, packets go out.
 use Rattle.std.specs.Prelude.{List, ◌++◌, ℕ, suc, ◌+◌, ◌-◌, ◌*◌, ◌%◌, ◌^◌, ltb, leb, eqb, length, set, take, drop, if◌then◌else◌}
 use Rattle.wire.specs.Bytes.{bytes}
-use Rattle.wire.specs.Header.{write_of, bytes_of, length_of}
+use Rattle.wire.specs.Header.{write_of, length_of}
 use Rattle.rules.specs.declared.Packet.{Packet}
 use Rattle.rules.specs.declared.Settings.{Settings}
 use Rattle.rules.specs.declared.Slot.{Slot}
@@ -99,7 +99,7 @@ emit_step w i =
 unfoldable pub record_of : Settings → Packet → List ℕ
 record_of s q =
     let w = write_of (header_of s q) in
-    bytes_of w ++ bytes 4 (length_of w) ++ bytes 4 q.ticket ++ bytes 4 q.offset ++ bytes 4 q.length
+    w.bytes ++ bytes 4 (length_of w.size) ++ bytes 4 q.ticket ++ bytes 4 q.offset ++ bytes 4 q.length
 
 -- new bytes in place of those at a place, if there are as many
 unfoldable pub placed : ℕ → List ℕ → List ℕ → List ℕ

@@ -8,7 +8,7 @@ ghost use Rattle.walks.specs.Acting.{emit_step, record_of, placed, recorded};
 use crate::Emitting;
 use message::{ends, sent};
 use rules::{Packet, Settings, Slot};
-use wire::{HEADER_BYTES, Header, Written, write};
+use wire::{HEADER_BYTES, Header, write};
 
 // A header's bytes, and four numbers of four.
 pub const RECORD_BYTES: usize = HEADER_BYTES + 4 * 4;
@@ -57,12 +57,6 @@ fn header_of(s: Settings, q: Packet) -> Header
 
 // ---- the record
 
-// What stands for a header that is refused.
-const UNWRITTEN: Written = Written {
-    length: 0,
-    bytes: [0; HEADER_BYTES],
-};
-
 // A number at its place in a record.
 fn put_number(out: &mut [u8; RECORD_BYTES], at: usize, n: u32)
     requires { at + 4 ≤ record_bytes }
@@ -75,10 +69,10 @@ fn record_of(s: Settings, q: Packet) -> [u8; RECORD_BYTES]
     requires { q.opcode < 2 ^ 8 }
     ensures { result ≡ record_of (capped s) q }
 {
-    let written = write(header_of(s, q)).unwrap_or(UNWRITTEN);
+    let written = write(header_of(s, q));
     let mut record = [0; RECORD_BYTES];
     record[..HEADER_BYTES].copy_from_slice(&written.bytes);
-    put_number(&mut record, HEADER_BYTES, written.length);
+    put_number(&mut record, HEADER_BYTES, written.size.unwrap_or(0));
     put_number(&mut record, HEADER_BYTES + 4, q.ticket);
     put_number(&mut record, HEADER_BYTES + 8, q.offset);
     put_number(&mut record, HEADER_BYTES + 12, q.length);

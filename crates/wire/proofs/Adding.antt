@@ -32,6 +32,14 @@ adds-join a b c ys zs p q xs e h =
 pub bytes-of-low : (k n : ℕ) → bytes k (n % 2 ^ (octet * k)) ≡ bytes k n
 bytes-of-low k n = ap (λ (j : ℕ). bytes k (n % 2 ^ (octet * j))) (sym (zero-add k)) ∙ bytes-mod k 0 n
 
+-- a number of two parts
+pub adds-number : (a b c : Out) (m k x y n : ℕ) → y < 2 ^ (octet * k) → n % 2 ^ (octet * (m + k)) ≡ x * 2 ^ (octet * k) + y
+    → Adds a b (bytes m x) → Adds b c (bytes k y) → Adds a c (bytes (m + k) n)
+adds-number a b c m k x y n h e p q =
+    let parts : bytes m x ++ bytes k y ≡ bytes (m + k) n =
+    sym (bytes-append m k x y h) ∙ ap (bytes (m + k)) (sym e) ∙ bytes-of-low (m + k) n in
+    subst (Adds a c) parts (adds-join a b c (bytes m x) (bytes k y) p q)
+
 -- bytes stored at the cursor
 pub adds-put : (a : Out) (ys new : List ℕ) (k : ℕ) → new ≡ ys → k ≡ length ys → Adds a (record { bytes = put_mid a.at k a.bytes new; at = a.at + length ys }) ys
 unfolding filled

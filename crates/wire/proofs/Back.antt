@@ -127,10 +127,10 @@ module _ (s : List ℕ) (small : AllBytes s) (t : Taken s) (w : AsWritten s) whe
       subst (λ (y : Header). y.msn < 2 ^ 24) (sym as_read) (aeth-msn (12 + count (has_reth op) 16 + count (has_immediate op) 4) (has_aeth op)) in
       rw (le-ltb 3 h.pad pad, lt-leb (2 ^ 24) h.far far, lt-leb psns h.psn psn, lt-leb (2 ^ 24) h.msn msn)
 
-  write-back : write_of h ≡ Ok (record { length = length_of s; bytes = take (length_of s) s ++ replicate (header_bytes - length_of s) 0 })
+  write-back : write_of h ≡ record { size = Ok (length_of s); bytes = take (length_of s) s ++ replicate (header_bytes - length_of s) 0 }
   write-back =
       write-whole h not-out-of-range (ap known same-opcode ∙ t.is_known)
-      ∙ (λ i. Ok (record { length = header_length (same-opcode i); bytes = same_bytes i ++ replicate (header_bytes - header_length (same-opcode i)) 0 }))
+      ∙ (λ i. record { size = Ok (header_length (same-opcode i)); bytes = same_bytes i ++ replicate (header_bytes - header_length (same-opcode i)) 0 })
 
 -- ---- the theorem
 
@@ -161,4 +161,4 @@ back s f small e w =
     (λ r given. let z : Err r ≡ Ok f = sym (refused-is s r given) ∙ e in cc)
   where
     Again : Frame → Type 0
-    Again f = write_of f.header ≡ Ok (record { length = f.length; bytes = take f.length s ++ replicate (header_bytes - f.length) 0 })
+    Again f = write_of f.header ≡ record { size = Ok f.length; bytes = take f.length s ++ replicate (header_bytes - f.length) 0 }

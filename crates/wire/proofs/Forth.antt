@@ -1,5 +1,5 @@
 -- "Reading a written header .. gives the same fields." Assumes nothing.
-use Rattle.std.specs.Prelude.{Ok, Err, if◌then◌else◌}
+use Rattle.std.specs.Prelude.{Result, Ok, Err, if◌then◌else◌}
 use mathlib.Core.Path.{◌≡◌, refl, sym, ◌∙◌, ap, subst}
 use mathlib.Core.Bool.{Bool, true, false, ◌||◌}
 use mathlib.Core.List.{List, [], ◌∷◌, ◌++◌}
@@ -12,13 +12,14 @@ use lib.ListN.{length, take, replicate, length-append, get_or-append}
 use lib.Seq.{take_all, take_at}
 use borrow.Author.Tests.{ltb-false, leb-true, leb-false}
 use Rattle.psn.specs.Psn.{psns}
+use Rattle.refusal.specs.declared.Refusal.{Refusal}
 use Rattle.refusal.specs.declared.Refusal.TheVariants.{Range, Opcode}
 use Rattle.refusal.proofs.Cases.{by-test, or_left, or_right}
 use Rattle.wire.specs.Bytes.{octet, number, bytes, AllBytes}
 use Rattle.wire.specs.Layout as fields
 use Rattle.wire.specs.Layout.{Name, Layout, bth, reth, immediate_data, aeth, size, has, laid, field}
 use Rattle.wire.specs.Opcodes.{known, has_reth, has_immediate, has_aeth, is_bare, layout, header_length}
-use Rattle.wire.specs.Header.{header_bytes, put, written, is_out_of_range, out_of}
+use Rattle.wire.specs.Header.{header_bytes, put, written, is_out_of_range, out_of, write_of}
 use Rattle.wire.specs.Frame.{got, opcode_of, length_of, rest_of, value_in, is_bad_rest, frame_of, read_of}
 use Rattle.wire.specs.Inner.Seen.{seen, bth_in, count}
 use Rattle.wire.specs.RoundTrip.{Held, kept, Forth}
@@ -151,21 +152,24 @@ module _ (h : Header) (held : Held h) (r : InRange h) (k : known h.opcode ≡ tr
 -- ---- the theorem
 
 pub forth : Forth
-forth h w rest held e b =
+forth h n rest held e b =
     by-test (is_out_of_range h)
-    (λ t. let z : Err Range ≡ Ok w = sym (write-range h t) ∙ e in cc)
+    (λ t. let z : Err Range ≡ Ok n = sym (ap size_of (write-range h t)) ∙ e in cc)
     (λ t.
     by-test (known h.opcode)
     (λ k.
-    let z : Ok (out_of h) ≡ Ok w = sym (write-whole h t k) ∙ e in
-    let same : out_of h ≡ w = cc in
-    subst Reads same (whole-header t k))
-    (λ k. let z : Err Opcode ≡ Ok w = sym (write-opcode h t k) ∙ e in cc))
+    let z : Ok (header_length h.opcode) ≡ Ok n = sym (ap size_of (write-whole h t k)) ∙ e in
+    let same : header_length h.opcode ≡ n = cc in
+    subst (Reads (write_of h)) same (subst (λ (w : Written). Reads w (header_length h.opcode)) (sym (write-whole h t k)) (whole-header t k)))
+    (λ k. let z : Err Opcode ≡ Ok n = sym (ap size_of (write-opcode h t k)) ∙ e in cc))
   where
-    Reads : Written → Type 0
-    Reads w = read_of (take w.length w.bytes ++ rest) ≡ Ok (record { header = kept h; length = w.length; payload = length rest - h.pad })
+    size_of : Written → Result ℕ Refusal
+    size_of w = w.size
 
-    whole-header : is_out_of_range h ≡ false → known h.opcode ≡ true → Reads (out_of h)
+    Reads : Written → ℕ → Type 0
+    Reads w n = read_of (take n w.bytes ++ rest) ≡ Ok (record { header = kept h; length = n; payload = length rest - h.pad })
+
+    whole-header : is_out_of_range h ≡ false → known h.opcode ≡ true → Reads (out_of h) (header_length h.opcode)
     whole-header t k =
         let n = header_length h.opcode in
         ap (λ (l : List ℕ). read_of (l ++ rest)) (take_at (written h) (replicate (header_bytes - n) 0) n (written-length h))

@@ -1,15 +1,16 @@
 -- Reading, case by case: each field in its own header, what is refused, and what is read. Assumes nothing.
 use Rattle.std.specs.Prelude.{Ok, Err, if◌then◌else◌}
 use mathlib.Core.Path.{◌≡◌, refl, sym, ◌∙◌, ap}
-use mathlib.Core.Bool.{Bool, true, false, true≢false}
+use mathlib.Core.Bool.{Bool, true, false, not, ◌&&◌, ◌||◌, true≢false}
 use mathlib.Core.List.{List, [], ◌∷◌, ◌++◌}
-use Prim.Native.Nat.{ℕ, ◌+◌, ◌≤◌, ◌<◌}
+use Prim.Native.Nat.{ℕ, ◌+◌, ◌%◌, ◌≤◌, ◌<◌}
 use native.Mathlib.Omega.{arith}
 use native.Mathlib.Nat.{zero-add}
+use lib.Dec.{ltb, eqb}
 use lib.ListN.{length}
-use borrow.Author.Tests.{lt-ltb, le-ltb, eq-eqb, ne_eqb}
+use borrow.Author.Tests.{ltb-false, lt-ltb, le-ltb, eq-eqb, ne_eqb}
 use Rattle.refusal.specs.declared.Refusal.TheVariants.{Short, Opcode, Version, Rest}
-use Rattle.refusal.proofs.Cases.{by-test}
+use Rattle.refusal.proofs.Cases.{by-test, or_left, or_right}
 use Rattle.wire.specs.Bytes.{number, AllBytes}
 use Rattle.wire.specs.Layout as fields
 use Rattle.wire.specs.Layout.{Name, Layout, bth, reth, immediate_data, aeth, same, has, field}
@@ -134,6 +135,12 @@ module _ (s : List ℕ) (small : AllBytes s) (long : length_of s ≤ length s) w
       }
 
 -- ---- the cases of `read_of`
+
+-- a rest that is not refused holds its pad
+pub pad-fits : (rest pad : ℕ) (bare : Bool) → is_bad_rest rest pad bare ≡ false → pad ≤ rest
+pad-fits rest pad bare e =
+    ltb-false rest pad
+    (or_left (ltb rest pad) ((bare && ltb 0 rest) || false) (or_right (not (eqb (rest % 4) 0)) (ltb rest pad || ((bare && ltb 0 rest) || false)) e))
 
 module _ (s : List ℕ) where
   pub read_short : length s < 12 → read_of s ≡ Err Short

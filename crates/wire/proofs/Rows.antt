@@ -28,6 +28,10 @@ carries-unknown op e = rw e
 
 -- ---- whole bytes
 
+pub count_most : (t : Bool) (k : ℕ) → count t k ≤ k
+count_most true k = omega arith
+count_most false k = omega arith
+
 pub size-carried : (t : Bool) (fs : Layout) (k : ℕ) → size fs ≡ octet * k → size (if t then fs else []) ≡ octet * count t k
 size-carried true fs k e = e
 size-carried false fs k e = refl

@@ -46,6 +46,11 @@ number-seen s at m k =
     ∙ number_append (seen s at m) (seen s (at + m) k)
     ∙ ap (λ (l : ℕ). number (seen s at m) * 2 ^ (octet * l) + number (seen s (at + m) k)) (seen-length s (at + m) k)
 
+-- the higher bytes and the lower
+pub join-seen : (s : List ℕ) (at m k x y : ℕ) → x ≡ number (seen s at m) → y ≡ number (seen s (at + m) k)
+    → x * 2 ^ (octet * k) + y ≡ number (seen s at (m + k))
+join-seen s at m k x y p q = ap₂ (λ (a b : ℕ). a * 2 ^ (octet * k) + b) p q ∙ sym (number-seen s at m k)
+
 pub seen_below : (s : List ℕ) → AllBytes s → (at k : ℕ) → number (seen s at k) < 2 ^ (octet * k)
 seen_below s h at k = subst (λ (l : ℕ). number (seen s at k) < 2 ^ (octet * l)) (seen-length s at k) (number-below (seen s at k) (seen_bytes s h at k))
 

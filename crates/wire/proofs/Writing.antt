@@ -1,17 +1,16 @@
 -- Writing, case by case: what is refused, and what the cursor has written at the end. Assumes nothing.
-use Rattle.std.specs.Prelude.{Result, Ok, Err, if◌then◌else◌}
+use Rattle.std.specs.Prelude.{Ok, if◌then◌else◌}
 use mathlib.Core.Path.{◌≡◌, refl, sym, ◌∙◌, ap, subst}
 use mathlib.Core.Bool.{Bool, true, false}
 use mathlib.Core.List.{[], ◌++◌}
 use Prim.Native.Nat.{ℕ, ◌+◌, ◌-◌, ◌≤◌}
 use native.Mathlib.Omega.{arith}
 use lib.ListN.{length, replicate, length-append, length-replicate}
-use Rattle.refusal.specs.declared.Refusal.{Refusal}
 use Rattle.refusal.specs.declared.Refusal.TheVariants.{Range, Opcode}
 use Rattle.refusal.proofs.Cases.{by-test}
 use Rattle.wire.specs.Layout.{Name, bth, reth, immediate_data, aeth, laid}
 use Rattle.wire.specs.Opcodes.{known, has_reth, has_immediate, has_aeth, joined, layout, header_length, row_of}
-use Rattle.wire.specs.Header.{header_bytes, put, written, is_out_of_range, out_of, write_of, bytes_of}
+use Rattle.wire.specs.Header.{header_bytes, put, written, is_out_of_range, out_of, refused, write_of}
 use Rattle.wire.specs.Inner.Out.{filled, Adds, spelled}
 use Rattle.wire.specs.Inner.Seen.{count}
 use Rattle.wire.specs.declared.Header.{Header}
@@ -24,15 +23,15 @@ use Rattle.wire.proofs.Rows.{size-carried, size-reth, size-immediate, length_mos
 
 -- ---- the cases of `write_of`
 
-pub write-range : (h : Header) → is_out_of_range h ≡ true → write_of h ≡ Err Range
+pub write-range : (h : Header) → is_out_of_range h ≡ true → write_of h ≡ refused Range
 unfolding write_of
 write-range h e = rw e
 
-pub write-opcode : (h : Header) → is_out_of_range h ≡ false → known h.opcode ≡ false → write_of h ≡ Err Opcode
+pub write-opcode : (h : Header) → is_out_of_range h ≡ false → known h.opcode ≡ false → write_of h ≡ refused Opcode
 unfolding write_of
 write-opcode h e k = rw (e, k)
 
-pub write-whole : (h : Header) → is_out_of_range h ≡ false → known h.opcode ≡ true → write_of h ≡ Ok (out_of h)
+pub write-whole : (h : Header) → is_out_of_range h ≡ false → known h.opcode ≡ true → write_of h ≡ out_of h
 unfolding write_of
 write-whole h e k = rw (e, k)
 
@@ -60,7 +59,7 @@ Makes h row =
     → Adds o1 o2 (spelled (put h) (if row.reth then reth else []))
     → Adds o2 o3 (spelled (put h) (if row.immediate then immediate_data else []))
     → Adds o3 o4 (spelled (put h) (if row.aeth then aeth else []))
-    → ◌≡◌ {A = Written} (record { length = row.length; bytes = o4.bytes }) (out_of h)
+    → ◌≡◌ {A = Written} (record { size = Ok row.length; bytes = o4.bytes }) (out_of h)
 
 pub written-length : (h : Header) → length (written h) ≡ header_length h.opcode
 unfolding written
@@ -73,17 +72,17 @@ by_row h k o0 o1 o2 o3 o4 s p1 p2 p3 p4 =
     let n = header_length op in
     let fits : 0 + length (written h) ≤ header_bytes = omega (arith, written-length h, length_most op k) in
     let end : o4 ≡ filled (written h) = adds-joined (put h) (has_reth op) (has_immediate op) (has_aeth op) o0 o1 o2 o3 o4 p1 p2 p3 p4 [] s fits in
-    ap {B = Written} (λ (o : Out). record { length = n; bytes = o.bytes }) end
-    ∙ ap {B = Written} (λ (l : ℕ). record { length = n; bytes = written h ++ replicate (header_bytes - l) 0 }) (written-length h)
+    ap {B = Written} (λ (o : Out). record { size = Ok n; bytes = o.bytes }) end
+    ∙ ap {B = Written} (λ (l : ℕ). record { size = Ok n; bytes = written h ++ replicate (header_bytes - l) 0 }) (written-length h)
 
 pub made : (h : Header) (row : Carries) → row ≡ row_of h.opcode → known h.opcode ≡ true → Makes h row
 made h row e k = subst (Makes h) (sym e) (by_row h k)
 
 -- all 32 bytes come back, refused or not
-pub bytes_whole : (h : Header) → length (bytes_of (write_of h)) ≡ header_bytes
+pub bytes_whole : (h : Header) → length (write_of h).bytes ≡ header_bytes
 bytes_whole h =
     by-test (is_out_of_range h)
-    (λ t. ap (λ (w : Result Written Refusal). length (bytes_of w)) (write-range h t) ∙ length-replicate {A = ℕ} header_bytes 0)
+    (λ t. ap (λ (w : Written). length w.bytes) (write-range h t) ∙ length-replicate {A = ℕ} header_bytes 0)
     (λ t.
     by-test (known h.opcode)
     (λ k.
@@ -91,5 +90,5 @@ bytes_whole h =
     let zeros = replicate (header_bytes - n) 0 in
     let long : length (written h ++ zeros) ≡ header_bytes
     = omega (arith, length-append (written h) zeros, length-replicate {A = ℕ} (header_bytes - n) 0, written-length h, length_most h.opcode k) in
-    ap (λ (w : Result Written Refusal). length (bytes_of w)) (write-whole h t k) ∙ long)
-    (λ k. ap (λ (w : Result Written Refusal). length (bytes_of w)) (write-opcode h t k) ∙ length-replicate {A = ℕ} header_bytes 0))
+    ap (λ (w : Written). length w.bytes) (write-whole h t k) ∙ long)
+    (λ k. ap (λ (w : Written). length w.bytes) (write-opcode h t k) ∙ length-replicate {A = ℕ} header_bytes 0))

@@ -56,16 +56,20 @@ answered (Some r) x = Err r
 abbrev pub out_of : Header → Written
 out_of h =
     let k = header_length h.opcode in
-    record { length = k; bytes = written h ++ replicate (header_bytes - k) 0 }
+    record { size = Ok k; bytes = written h ++ replicate (header_bytes - k) 0 }
 
-unfoldable pub write_of : Header → Result Written Refusal
-write_of h = answered (first_given (write_refusals h)) (out_of h)
+-- "the 32 bytes are then zeros"
+abbrev pub refused : Refusal → Written
+refused r = record { size = Err r; bytes = replicate header_bytes 0 }
 
--- what a record of the card holds of it: of a refused header "the 32 bytes are then zeros"
-abbrev pub bytes_of : Result Written Refusal → List ℕ
-bytes_of (Ok w) = w.bytes
-bytes_of (Err r) = replicate header_bytes 0
+abbrev pub written_or : Option Refusal → Written → Written
+written_or None w = w
+written_or (Some r) w = refused r
 
-abbrev pub length_of : Result Written Refusal → ℕ
-length_of (Ok w) = w.length
+unfoldable pub write_of : Header → Written
+write_of h = written_or (first_given (write_refusals h)) (out_of h)
+
+-- what a record of the card says of a header's length: of a refused one 0
+abbrev pub length_of : Result ℕ Refusal → ℕ
+length_of (Ok k) = k
 length_of (Err r) = 0

@@ -9,7 +9,6 @@ use Rattle.wire.specs.Opcodes.{is_bare, layout}
 use Rattle.wire.specs.Header.{header_bytes, put, write_of}
 use Rattle.wire.specs.Frame.{got, value_in, is_bad_rest, read_of}
 use Rattle.wire.specs.declared.Header.{Header}
-use Rattle.wire.specs.declared.Written.{Written}
 use Rattle.wire.specs.declared.Frame.{Frame}
 
 -- a header whose numbers fit their fields in memory, as every header of the code does
@@ -28,8 +27,8 @@ kept h = got (λ n. if has n (layout h.opcode) then put h n else 0)
 -- "Reading a written header, cut to its length and followed by a rest that 14 allows, gives the same fields"
 abbrev pub Forth : Type 0
 Forth =
-    (h : Header) (w : Written) (rest : List ℕ) → Held h → write_of h ≡ Ok w → is_bad_rest (length rest) h.pad (is_bare h.opcode) ≡ false
-    → read_of (take w.length w.bytes ++ rest) ≡ Ok (record { header = kept h; length = w.length; payload = length rest - h.pad })
+    (h : Header) (n : ℕ) (rest : List ℕ) → Held h → (write_of h).size ≡ Ok n → is_bad_rest (length rest) h.pad (is_bare h.opcode) ≡ false
+    → read_of (take n (write_of h).bytes ++ rest) ≡ Ok (record { header = kept h; length = n; payload = length rest - h.pad })
 
 -- "the reserved bits were zero and those three as written"
 pub record AsWritten (s : List ℕ) : Type 0 where
@@ -43,4 +42,4 @@ pub record AsWritten (s : List ℕ) : Type 0 where
 abbrev pub Back : Type 0
 Back =
     (s : List ℕ) (f : Frame) → AllBytes s → read_of s ≡ Ok f → AsWritten s
-    → write_of f.header ≡ Ok (record { length = f.length; bytes = take f.length s ++ replicate (header_bytes - f.length) 0 })
+    → write_of f.header ≡ record { size = Ok f.length; bytes = take f.length s ++ replicate (header_bytes - f.length) 0 }

@@ -7,6 +7,7 @@ mod writer;
 
 pub use opcode::{Carries, has_immediate, has_reth, is_last};
 pub use reader::read;
+use refusal::Refusal;
 pub use writer::write;
 
 // A header's fields by value; those that its opcode lacks are not written and read as 0.
@@ -28,11 +29,11 @@ pub struct Header {
 // A header goes out as this many bytes, zeros after its own.
 pub const HEADER_BYTES: usize = 32;
 
-// Document 01 has 32 bytes by value, and there is no heap.
+// Document 01 has 32 bytes by value, and there is no heap. Those of a refused header are zeros.
 #[derive(Clone, Copy, Debug, PartialEq, Eq)]
 pub struct Written {
     // How many of the bytes are the header's.
-    pub length: u32,
+    pub size: Result<u32, Refusal>,
     pub bytes: [u8; HEADER_BYTES],
 }
 

@@ -2,7 +2,7 @@
 ghost use Rattle.std.specs.Prelude.{◌≡◌, [], if◌then◌else◌};
 ghost use Rattle.wire.specs.Bytes.{bytes};
 ghost use Rattle.wire.specs.Layout.{bth, reth, immediate_data, aeth};
-ghost use Rattle.wire.specs.Header.{put, is_out_of_range, write_of};
+ghost use Rattle.wire.specs.Header.{put, is_out_of_range, refused as refused_by, write_of};
 ghost use Rattle.wire.specs.Inner.Out.{filled, Adds, spelled};
 
 use crate::opcode::Carries;
@@ -105,21 +105,31 @@ fn is_out_of_range(h: Header) -> bool
     h.pad > 3 || h.far >= LIMIT || h.psn >= Psn::COUNT || h.msn >= LIMIT
 }
 
-pub fn write(h: Header) -> Result<Written, Refusal>
+fn refused(refusal: Refusal) -> Written
+    ensures { result ≡ refused_by refusal }
+{
+    let bytes = [0; HEADER_BYTES];
+    Written {
+        size: Err(refusal),
+        bytes,
+    }
+}
+
+pub fn write(h: Header) -> Written
     ensures { result ≡ write_of h }
 {
     if is_out_of_range(h) {
-        return Err(Refusal::Range);
+        return refused(Refusal::Range);
     }
     let Some(carries) = Carries::of(h.opcode) else {
-        return Err(Refusal::Opcode);
+        return refused(Refusal::Opcode);
     };
     let out = Out::new().bth(h).reth(carries.reth, h);
     let out = out.immediate(carries.immediate, h).aeth(carries.aeth, h);
     // An array is read out of a struct before it goes into another.
     let bytes = out.bytes;
-    Ok(Written {
-        length: carries.length,
+    Written {
+        size: Ok(carries.length),
         bytes,
-    })
+    }
 }

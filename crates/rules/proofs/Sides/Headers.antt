@@ -75,7 +75,7 @@ in-its-range s q far low = rw (le-ltb 3 (pad_for q.length) (pad-small q.length),
 -- the written header has its opcode's length, and zeros follow it
 pub record Headed (t : Standing) (p : Packet) : Type 0 where
   pub whole : write_of (header_of t.settings (sent t p))
-      ≡ Ok (record { length = header_length p.opcode; bytes = written (header_of t.settings (sent t p)) ++ replicate (header_bytes - header_length p.opcode) 0 })
+      ≡ record { size = Ok (header_length p.opcode); bytes = written (header_of t.settings (sent t p)) ++ replicate (header_bytes - header_length p.opcode) 0 }
 
 module _ (t : Standing) (far : t.settings.far < psns) (u-low : t.line.u < psns) where
   sent-opcode : (p : Packet) → (sent t p).opcode ≡ p.opcode
@@ -96,7 +96,7 @@ module _ (t : Standing) (far : t.settings.far < psns) (u-low : t.line.u < psns) 
         whole =
             subst
             (λ (op : ℕ). write_of (header_of t.settings q)
-            ≡ Ok (record { length = header_length op; bytes = written (header_of t.settings q) ++ replicate (header_bytes - header_length op) 0 }))
+            ≡ record { size = Ok (header_length op); bytes = written (header_of t.settings q) ++ replicate (header_bytes - header_length op) 0 })
             same is;
       }
 

@@ -11,6 +11,7 @@ loop-n-preserved c =
     let more : i < length s = omega arith in
     record {
       same = c.put_number.ensures.same ∙ c.loop-n.invariant.same;
+      long = c.put_number.ensures.long ∙ c.loop-n.invariant.long;
       put = putting-more c.loop-n.invariant.put more (numeral (get_or s i 0)) (spaced-at s i more) c.put_number.ensures.after;
     }
 

@@ -1,17 +1,15 @@
 -- The header's bytes, or zeros, and each number behind what is there.
-use Rattle.std.proofs.Common.{◌≡◌, refl, Result, Ok, Err, replicate}
+use Rattle.std.proofs.Common.{◌≡◌, refl, ℕ, Result, Ok, Err}
 use Rattle.std.specs.Result.{result_unwrap_or}
 use Rattle.refusal.specs.declared.Refusal.{Refusal}
-use Rattle.wire.specs.declared.Written.{Written}
-use Rattle.wire.specs.Header.{header_bytes, bytes_of, length_of}
+use Rattle.wire.specs.Header.{length_of}
 use Rattle.message.specs.Capped.{capped}
 use Rattle.walks.proofs.Recorded.{record-built}
 use Rattle.walks.proofs.emission.record_of.Goals as goal
 
--- what stands for a refused header is what the header layer says of it
-stands : (r : Result Written Refusal)
-    → result_unwrap_or r (record { length = 0; bytes = replicate header_bytes 0 }) ≡ record { length = length_of r; bytes = bytes_of r }
-stands (Ok w) = refl
+-- 0 stands for the length of a refused header
+stands : (r : Result ℕ Refusal) → result_unwrap_or r 0 ≡ length_of r
+stands (Ok k) = refl
 stands (Err r) = refl
 
 pub returns : goal.returns
@@ -22,8 +20,8 @@ returns c =
       c.put_number-2.ensures,
       c.put_number.ensures,
       c.copy_from_slice.ensures.after,
-      c.unwrap_or-written.ensures,
-      stands c.write.result,
-      c.write.ensures,
+      c.unwrap_or.ensures,
+      stands c.write-written.result.size,
+      c.write-written.ensures,
       c.header_of.ensures,
     ) (record-built (capped c.args.s) c.args.q)
